@@ -1,0 +1,5 @@
+pub mod Below
+pub mod Remainders
+pub mod Inverses
+pub mod Primes
+pub mod PrimeResidues
