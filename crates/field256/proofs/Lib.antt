@@ -1,0 +1,4 @@
+pub mod Linear
+pub mod Products
+pub mod Powers
+pub mod PolynomialField
