@@ -1,0 +1,1 @@
+// The mathematics of chain complexes over fields of codes.
