@@ -1,0 +1,38 @@
+// Chain complexes over a field.
+ghost use mathlib.Core.Path.{_≡_};
+ghost use Rattle.linear.specs.Complexes.{Meaning, IsComplex, WithinLimits};
+
+pub mod leaf;
+
+use field::Field;
+
+// A complex answers what it means: its top, how many cells it has in each degree, and the entries of its
+// boundaries, 0 outside them. Every complex names the one field that its entries come from.
+pub trait Complex {
+    type F: Field;
+
+    ghost meaning: { Self → Meaning };
+
+    // what the two halves of a constructor establish
+    ghost sound: { Self → Type 0 };
+
+    fn field(&self) -> &Self::F;
+
+    fn top(&self) -> usize
+        requires { ⌜ sound (now self) ⌝ }
+        ensures { λ r. ⌜ r ≡ meaning (now (self .entry)) .top ⌝ };
+
+    fn dim(&self, k: usize) -> usize
+        requires { ⌜ sound (now self) ⌝ }
+        ensures { λ r. ⌜ r ≡ meaning (now (self .entry)) .dim k ⌝ };
+
+    fn entry(&self, k: usize, i: usize, j: usize) -> u8
+        requires { ⌜ sound (now self) ⌝ }
+        ensures { λ r. ⌜ r ≡ meaning (now (self .entry)) .entry k i j ⌝ };
+
+    // The law of a complex, for every sound value.
+    fn law(&self)
+        requires { ⌜ sound (now self) ⌝ }
+        ensures complex { λ _. ⌜ IsComplex (F·Field .codes) (meaning (now (self .entry))) ⌝ }
+        ensures limits { λ _. ⌜ WithinLimits (meaning (now (self .entry))) ⌝ };
+}
