@@ -1,0 +1,5 @@
+pub mod Holding
+pub mod Blocks
+pub mod Chosen
+pub mod Nearness
+pub mod BlockLaws

@@ -1,0 +1,3 @@
+// The lists of cells that a job works on.
+pub mod block;
+pub mod working;
