@@ -1,0 +1,15 @@
+pub mod Along
+pub mod Bodies
+pub mod DrawnOrder
+pub mod Following
+pub mod Formed
+pub mod Fronts
+pub mod GroupOrder
+pub mod JobLaws
+pub mod Marks
+pub mod RecordBytes
+pub mod RecordOrder
+pub mod Singles
+pub mod Taking
+pub mod Tellings
+pub mod Walks

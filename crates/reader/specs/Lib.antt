@@ -1,0 +1,9 @@
+pub mod Faults
+pub mod Format
+pub mod JobLaw
+pub mod Reading
+pub mod Records
+pub mod Saying
+pub mod Sheets
+pub mod Telling
+pub mod Turns
