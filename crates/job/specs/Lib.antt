@@ -1,0 +1,4 @@
+pub mod Counts
+pub mod JobLaw
+pub mod Jobs
+pub mod Steps
