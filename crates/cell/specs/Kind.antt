@@ -59,6 +59,6 @@ pub record IsKind {K : Type 0} (k : Kind K) : Type 0 where
       (c d : K) → k .valid c ≡ true → k .valid d ≡ true → k .degree c < k .degree d → k .rank c < k .rank d
   -- the faces of a cell are distinct cells one degree below it, so a cell of degree 0 has none
   pub faces-below : (c : K) → k .valid c ≡ true → Faces k (k .degree c) (k .faces c)
-  -- over all faces of c that have g as a face the products of the two signs sum to 0:
+  -- going from c to g over one face between them, the two signs multiplied cancel out in all:
   -- as many are +1 as are -1
   pub signs-cancel : (c g : K) → k .valid c ≡ true → ways k Plus g (k .faces c) ≡ ways k Minus g (k .faces c)

@@ -40,7 +40,7 @@ with-plus s = record { cell = s; sign = Plus }
 abbrev pub with-minus : Simplex → Face Simplex
 with-minus s = record { cell = s; sign = Minus }
 
--- face f leaves out vertex f, counted from 0, and the signs alternate
+-- each face drops one vertex, the first vertex first; the signs alternate from plus
 abbrev pub simplex-faces : Simplex → List (Face Simplex)
 simplex-faces (Vertex a) = []
 simplex-faces (Edge a b) = with-plus (Vertex b) ∷ with-minus (Vertex a) ∷ []

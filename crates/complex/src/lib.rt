@@ -7,7 +7,7 @@ pub mod leaf;
 use field::Field;
 
 // A complex answers what it means: its top, how many cells it has in each degree, and the entries of its
-// boundaries, 0 outside them. Every complex names the one field that its entries come from.
+// boundaries, 0 outside them. Its type says over which field it is.
 pub trait Complex {
     type F: Field;
 

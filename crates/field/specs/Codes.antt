@@ -16,7 +16,7 @@ pub record Codes : Type 0 where
   pub times : ℕ → ℕ → ℕ
   pub inverse : ℕ → Option ℕ
 
--- the laws of a commutative field with zero 0 and one 1, of at most 256 elements
+-- what makes the codes a field of at most 256 elements: 0 is neutral for sums and 1 for products
 pub record IsField (f : Codes) : Type 0 where
   pub two : 2 ≤ f .order
   pub small : f .order ≤ 256

@@ -26,7 +26,7 @@ module _ {K : Type 0} (k : Kind K) where
   abbrev pub HasFaces : List K → K → Type 0
   HasFaces cs c = All (λ f. held (k .rank (f .cell)) cs ≡ true) (k .faces c)
 
--- a strictly ascending list of at most 1,024 cells that has every face of its cells
+-- valid cells, no more than 1,024 and each above the one before, none of which lacks a face in the list
 pub record Closed {K : Type 0} (k : Kind K) (cs : List K) : Type 0 where
   pub few : length cs ≤ 1024
   pub valid : All (λ c. k .valid c ≡ true) cs

@@ -1,7 +1,7 @@
 // The cubes of a block of voxels.
-ghost use mathlib.Core.Bool.{true};
 ghost use mathlib.Core.Path.{_≡_};
 ghost use Prim.Native.Nat.{_<_};
+ghost use Rattle.std.specs.Orderings.{Decides};
 ghost use Rattle.lists.specs.Block.{Blank, belongs, block, chosen, cube-of, cubes-at, either, filled, high, low};
 ghost use Rattle.lists.specs.BlockLaw.{IsBlock};
 ghost use Rattle.lists.specs.Working.{Grows, Holds};
@@ -84,7 +84,7 @@ fn choose(voxels: &[bool], n: usize, list: &mut WorkingList<Cube>)
 
 // Whether no voxel is filled.
 fn is_blank(voxels: &[bool]) -> bool
-    ensures { λ r. ⌜ (r ≡ true → Blank (now (voxels .entry))) ⌝ }
+    ensures { λ r. ⌜ Decides r (Blank (now (voxels .entry))) ⌝ }
 {
     for flag in voxels {
         if *flag {

@@ -80,9 +80,31 @@ number-bytes kind high low code h =
     ∙ ap (λ (n : ℕ). kind ∷ high ∷ n ∷ code ∷ []) (mod-mul-add high 256 low h)
 
 kinds-spell : All Spells kinds
-kinds-spell =
-    (λ b h. refl, (λ b h. refl, (λ b h. refl, (λ b h. refl, (λ b h. refl, (λ b h. refl, (λ b h. refl, (λ b h. refl,
-    (λ b h. number-bytes 0x5a (b 0) (b 1) (b 2) h, (λ b h. number-bytes 0x59 (b 0) (b 1) (b 2) h, tt))))))))))
+kinds-spell = (
+  λ b h. refl,
+  (
+    λ b h. refl,
+    (
+      λ b h. refl,
+      (
+        λ b h. refl,
+        (
+          λ b h. refl,
+          (
+            λ b h. refl,
+            (
+              λ b h. refl,
+              (
+                λ b h. refl,
+                (λ b h. number-bytes 0x5a (b 0) (b 1) (b 2) h, (λ b h. number-bytes 0x59 (b 0) (b 1) (b 2) h, tt)),
+              ),
+            ),
+          ),
+        ),
+      ),
+    ),
+  ),
+)
 
 split-fronted : (xs : List ℕ) → AllBytes xs → Fronted xs (split xs)
 split-fronted [] h = tt

@@ -31,7 +31,7 @@ returns c =
 
 pub returns-then-is-blank : need.returns-then-is-blank
 returns-then-is-blank c = record {
-  holds = subst (Holds (c .new-list .result)) (block-blank (c .args .voxels .now) (c .is-blank .ensures (c .if-is-blank .taken)))
+  holds = subst (Holds (c .new-list .result)) (block-blank (c .args .voxels .now) (c .is-blank .ensures .0 (c .if-is-blank .taken)))
       (c .new-list .ensures);
   law = is-block (c .args .voxels .now);
 }

@@ -1,3 +1,4 @@
+use mathlib.Core.Path.{refl}
 use mathlib.Core.Bool.{false}
 use mathlib.Core.Logic.{inl, inr, ⊎-elim}
 use native.Mathlib.Omega.{arith}
@@ -7,6 +8,8 @@ use Rattle.std.proofs.shelf.Tests.{cases-lt}
 use Rattle.lists.proofs.block.is_blank.Needs as need
 
 pub returns : need.returns
-returns c = λ e n.
-    let flags = c .args .voxels .now in
-    ⊎-elim (λ less. c .loop-flag .inv n (omega arith)) (λ past. getD-past flags n false past) (cases-lt n (length flags))
+returns c =
+    let flags = c .args .voxels .now in (
+      λ e n. ⊎-elim (λ less. c .loop-flag .inv n (omega arith)) (λ past. getD-past flags n false past) (cases-lt n (length flags)),
+      λ none. refl,
+    )

@@ -17,11 +17,12 @@ returns-in-len1-up c =
     let xs = c .args .job .now in
     let some : 1 ≤ length xs = search needs in
     let short : Shorter kinds (getD xs 0 0) (length xs) = elim (c .in-len1-up· .came) [
-      then-job-lt2 w ↦ (let less : length xs < 2 = search needs in (λ e. omega arith, (λ e. omega arith, (λ e. omega arith, (λ e. omega arith, (λ e. omega arith, (λ e. omega arith, (λ e. omega arith, (λ e. omega arith, (λ e. omega arith, (λ e. omega arith, tt)))))))))))
+      | then-job-lt2 w ↦ (let less : length xs < 2 = search needs in (λ e. omega arith, (λ e. omega arith, (λ e. omega arith, (λ e. omega arith, (λ e. omega arith, (λ e. omega arith, (λ e. omega arith, (λ e. omega arith, (λ e. omega arith, (λ e. omega arith, tt)))))))))))
       | else-job-lt2·then-job-lt3·in-rest· w ↦ (let less : length xs < 3 = search needs in (λ e. omega arith, (λ e. omega arith, (λ e. omega arith, (λ e. omega arith, (λ e. omega arith, (λ e. omega arith, (λ e. omega arith, (λ e. omega arith, (λ e. omega arith, (λ e. omega arith, tt)))))))))))
       | else-job-lt2·else-job-lt3·then-job-lt4·in-rest· w ↦ (let less : length xs < 4 = search needs in (λ e. omega arith, (λ e. omega arith, (λ e. omega arith, (λ e. omega arith, (λ e. omega arith, (λ e. omega arith, (λ e. omega arith, (λ e. omega arith, (λ e. omega arith, (λ e. omega arith, tt)))))))))))
       | else-job-lt2·else-job-lt3·else-job-lt4·then-job-lt5·in-rest· w ↦ (let less : length xs < 5 = search needs in (λ e. search needs, (λ e. search needs, (λ e. search needs, (λ e. search needs, (λ e. search needs, (λ e. search needs, (λ e. search needs, (λ e. search needs, (λ e. search needs, (λ e. search needs, tt)))))))))))
-      | else-job-lt2·else-job-lt3·else-job-lt4·else-job-lt5·in-rest· w ↦ (λ e. search needs, (λ e. search needs, (λ e. search needs, (λ e. search needs, (λ e. search needs, (λ e. search needs, (λ e. search needs, (λ e. search needs, (λ e. search needs, (λ e. search needs, tt)))))))))) ] in
+      | else-job-lt2·else-job-lt3·else-job-lt4·else-job-lt5·in-rest· w ↦ (λ e. search needs, (λ e. search needs, (λ e. search needs, (λ e. search needs, (λ e. search needs, (λ e. search needs, (λ e. search needs, (λ e. search needs, (λ e. search needs, (λ e. search needs, tt))))))))))
+    ] in
     split-short xs some short ∙ ap Err (sym (c .flaw-of .ensures))
 
 pub returns-in-70 : need.returns-in-70
