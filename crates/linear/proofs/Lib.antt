@@ -1,3 +1,10 @@
 pub mod Codes
 pub mod Sums
+pub mod Negatives
+pub mod Totals
+pub mod Blocks
 pub mod Lists
+pub mod Limits
+pub mod Duals
+pub mod cone
+pub mod tensor

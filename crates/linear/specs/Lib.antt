@@ -1,2 +1,9 @@
 pub mod Sums
 pub mod Complexes
+pub mod Dual
+pub mod ChainMaps
+pub mod Scalar
+pub mod Cone
+pub mod ConeLaw
+pub mod Tensor
+pub mod TensorLaw

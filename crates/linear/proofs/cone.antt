@@ -1,0 +1,5 @@
+pub mod Entries
+pub mod Square
+pub mod Laws
+pub mod Counts
+pub mod Scalars
