@@ -50,7 +50,7 @@ impl<I: Index, F: Field> Leaf<I, F> {
     }
 
     // The cell with the number i among those of degree d.
-    fn cell(&self, d: usize, i: usize) -> Option<I::K>
+    pub fn cell(&self, d: usize, i: usize) -> Option<I::K>
         requires { ⌜ Sound (K·Cell .kind) (I·Index .cells (now self .index)) (now self .starts) ⌝ }
         ensures { λ r. ⌜ r ≡ nth (of-degree (K·Cell .kind) d (I·Index .cells (now (self .entry) .index))) i ⌝ }
     {

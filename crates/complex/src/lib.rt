@@ -1,7 +1,11 @@
 // Chain complexes over a field.
 ghost use mathlib.Core.Path.{_≡_};
+ghost use Prim.Native.Nat.{_≤_};
 ghost use Rattle.linear.specs.Complexes.{Meaning, IsComplex, WithinLimits};
+ghost use Rattle.complex.specs.Limits.{cells};
 
+pub mod dual;
+pub mod fault;
 pub mod leaf;
 
 use field::Field;
@@ -35,4 +39,18 @@ pub trait Complex {
         requires { ⌜ sound (now self) ⌝ }
         ensures complex { λ _. ⌜ IsComplex (F·Field .codes) (meaning (now (self .entry))) ⌝ }
         ensures limits { λ _. ⌜ WithinLimits (meaning (now (self .entry))) ⌝ };
+}
+
+// How many cells a complex has in all its degrees.
+pub fn count_cells<C: Complex>(c: &C) -> usize
+    requires { ⌜ C·Complex .sound (now c) ⌝ }
+    ensures is { λ r. ⌜ r ≡ cells (C·Complex .meaning (now (c .entry))) ⌝ }
+    ensures few { λ r. ⌜ r ≤ 1024 ⌝ }
+{
+    c.law();
+    let mut n = 0;
+    for k in 0..c.top() + 1 {
+        n += c.dim(k);
+    }
+    n
 }

@@ -19,7 +19,7 @@ use refusal::Refusal;
 const MOST_CELLS: usize = 1024;
 
 // Why a list of cells is no closed list.
-#[derive(Clone, Copy)]
+#[derive(Clone, Copy, Debug)]
 pub enum LeafFault {
     OutOfRange,
     NotAbove(usize),

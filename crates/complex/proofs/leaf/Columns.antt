@@ -24,7 +24,7 @@ all-always P (x ∷ xs) h = (h x, all-always P xs h)
 
 module _ {K : Type 0} (f : Codes) (law : IsField f) (k : Kind K) (kind : IsKind k) where
   -- one cell of the list counts
-  sum-over-held :
+  pub sum-over-held :
       (ms : List K) (r v : ℕ) (t : K → ℕ) → All (λ m. k .valid m ≡ true) ms → Ascending k ms → held k r ms ≡ true →
       v < f .order → ((m : K) → k .valid m ≡ true → r ≡ k .rank m → t m ≡ v) →
       ((m : K) → (r ≡ k .rank m → ⊥) → t m ≡ 0) → sum-over f ms t ≡ v

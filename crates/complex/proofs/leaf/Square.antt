@@ -38,7 +38,7 @@ module _ {K : Type 0} (f : Codes) (law : IsField f) (k : Kind K) (kind : IsKind 
   faces-valid d (x ∷ xs) faces = (faces .0, faces-valid d xs (faces .3))
 
   -- the faces of a cell stand among the cells of the degree below
-  faces-held :
+  pub faces-held :
       (d : ℕ) (xs : List (Face K)) → Faces k (suc d) xs → All (λ x. held k (k .rank (x .cell)) cs ≡ true) xs →
       All (λ x. held k (k .rank (x .cell)) (of-degree k d cs) ≡ true) xs
   faces-held d [] faces there = tt
