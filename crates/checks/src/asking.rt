@@ -65,3 +65,7 @@ pub(crate) fn check_refused_by_job(input: &[u8], number: u8, place: usize) -> Re
 pub(crate) fn check_refused_by_leaf(input: &[u8], number: u8, place: usize) -> Result<(), Fail> {
     check_refused(input, Refusal { number, layer: Layer::Leaf, place })
 }
+
+pub(crate) fn check_refused_by_pile(input: &[u8], number: u8, place: usize) -> Result<(), Fail> {
+    check_refused(input, Refusal { number, layer: Layer::Pile, place })
+}

@@ -8,7 +8,11 @@ mod entries;
 #[cfg(test)]
 mod fields;
 #[cfg(test)]
+mod layers;
+#[cfg(test)]
 mod limits;
+#[cfg(test)]
+mod nested;
 #[cfg(test)]
 mod refusals;
 #[cfg(test)]

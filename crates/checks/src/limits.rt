@@ -47,6 +47,55 @@ fn block_of_1025_cubes_is_refused(rt: LibcRuntime) -> Result<(), Fail> {
     Ok(())
 }
 
+// 37 voxels with one pad. 35 stand two apart and share no cube; (7, 7, 3) has one corner in common with (6, 6, 2), and
+// (7, 1, 5) one with (6, 0, 4). Their cubes are 35 * 27 + 2 * 26 = 997, and those of the pad 27.
+static CONE: [u8; 153] = [
+    F, 2,
+    P, 0, 0, 0, V, 2, 0, 0, V, 4, 0, 0, V, 6, 0, 0, V, 0, 2, 0, V, 2, 2, 0, V, 4, 2, 0, V, 6, 2, 0,
+    V, 0, 4, 0, V, 2, 4, 0, V, 4, 4, 0, V, 6, 4, 0, V, 0, 6, 0, V, 2, 6, 0, V, 4, 6, 0, V, 6, 6, 0,
+    V, 0, 0, 2, V, 2, 0, 2, V, 4, 0, 2, V, 6, 0, 2, V, 0, 2, 2, V, 2, 2, 2, V, 4, 2, 2, V, 6, 2, 2,
+    V, 0, 4, 2, V, 2, 4, 2, V, 4, 4, 2, V, 6, 4, 2, V, 0, 6, 2, V, 2, 6, 2, V, 4, 6, 2, V, 6, 6, 2,
+    V, 7, 7, 3, V, 0, 0, 4, V, 2, 0, 4, V, 6, 0, 4, V, 7, 1, 5,
+    Q, 2, 0,
+];
+
+// The same with (4, 2, 4) in place of (7, 1, 5), which has no cube in common with any: 998 cubes.
+static CONE_OF_ONE_MORE: [u8; 153] = [
+    F, 2,
+    P, 0, 0, 0, V, 2, 0, 0, V, 4, 0, 0, V, 6, 0, 0, V, 0, 2, 0, V, 2, 2, 0, V, 4, 2, 0, V, 6, 2, 0,
+    V, 0, 4, 0, V, 2, 4, 0, V, 4, 4, 0, V, 6, 4, 0, V, 0, 6, 0, V, 2, 6, 0, V, 4, 6, 0, V, 6, 6, 0,
+    V, 0, 0, 2, V, 2, 0, 2, V, 4, 0, 2, V, 6, 0, 2, V, 0, 2, 2, V, 2, 2, 2, V, 4, 2, 2, V, 6, 2, 2,
+    V, 0, 4, 2, V, 2, 4, 2, V, 4, 4, 2, V, 6, 4, 2, V, 0, 6, 2, V, 2, 6, 2, V, 4, 6, 2, V, 6, 6, 2,
+    V, 7, 7, 3, V, 0, 0, 4, V, 2, 0, 4, V, 6, 0, 4, V, 4, 2, 4,
+    Q, 2, 0,
+];
+
+#[test]
+fn cone_of_1024_cells_has_a_report_and_one_of_1025_is_refused() -> Result<(), Fail> {
+    check_report(&CONE, b"field 2\nform 2\ncells 294 452 234 43 1\n")?;
+    check_refused_by_pile(&CONE_OF_ONE_MORE, 8, 1024)
+}
+
+// Four voxels with 108 cubes: nine vertices give 972 pairs, and ten give 1,080.
+#[test]
+fn tensor_of_1080_cells_is_refused() -> Result<(), Fail> {
+    check_report(
+        &[
+            F, 2, V, 0, 0, 0, V, 2, 0, 0, V, 4, 0, 0, V, 6, 0, 0,
+            A, 0, A, 1, A, 2, A, 3, A, 4, A, 5, A, 6, A, 7, A, 8, Q, 5, 0,
+        ],
+        b"field 2\nform 5\ncells 288 432 216 36 0 0 0\n",
+    )?;
+    check_refused_by_pile(
+        &[
+            F, 2, V, 0, 0, 0, V, 2, 0, 0, V, 4, 0, 0, V, 6, 0, 0,
+            A, 0, A, 1, A, 2, A, 3, A, 4, A, 5, A, 6, A, 7, A, 8, A, 9, Q, 5, 0,
+        ],
+        8,
+        1024,
+    )
+}
+
 // A record of each of the 8 by 8 by 8 voxels.
 fn push_voxels(input: &mut Vec<u8>, kind: u8) -> Result<(), AllocError> {
     for n in 0..512u16 {

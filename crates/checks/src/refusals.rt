@@ -3,7 +3,7 @@ use crate::asking::*;
 use std::test::*;
 
 // The number and the place of each refusal by the job.
-static FAULTY: [(&'static [u8], u8, usize); 88] = [
+static FAULTY: [(&'static [u8], u8, usize); 89] = [
     // the smallest of each number
     (&[], 5, 0),
     (&[0], 2, 0),
@@ -74,12 +74,13 @@ static FAULTY: [(&'static [u8], u8, usize); 88] = [
     // forms, degrees and coefficients out of range; forms 2, 3, 5 and 6 are not built
     (&[F, 2, Q, 0, 0], 4, 2),
     (&[F, 2, Q, 7, 0], 4, 2),
-    (&[F, 2, Q, 2, 0], 4, 2),
-    (&[F, 2, Q, 3, 0], 4, 2),
-    (&[F, 2, Q, 5, 0], 4, 2),
-    (&[F, 2, Q, 6, 0], 4, 2),
+    (&[F, 2, Q, 255, 0], 4, 2),
     (&[F, 2, Q, 1, 4], 4, 2),
+    (&[F, 2, Q, 2, 5], 4, 2),
+    (&[F, 2, Q, 3, 5], 4, 2),
     (&[F, 2, Q, 4, 4], 4, 2),
+    (&[F, 2, Q, 5, 7], 4, 2),
+    (&[F, 2, Q, 6, 5], 4, 2),
     (&[F, 2, Q, 1, 0, Z, 0, 0, 0], 4, 5),
     (&[F, 2, Q, 1, 0, Z, 0, 0, 2], 4, 5),
     (&[F, 251, Q, 1, 0, Y, 0, 0, 251], 4, 5),

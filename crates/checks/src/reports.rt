@@ -46,7 +46,7 @@ static HOLLOW: [u8; 109] = [
     Q, 1, 0,
 ];
 
-static REPORTS: [(&'static [u8], &'static [u8]); 28] = [
+static REPORTS: [(&'static [u8], &'static [u8]); 43] = [
     // each field
     (&[F, 0, Q, 1, 0], b"field 256\nform 1\ncells 0 0 0 0\n"),
     (&[F, 2, Q, 1, 0], b"field 2\nform 1\ncells 0 0 0 0\n"),
@@ -56,7 +56,11 @@ static REPORTS: [(&'static [u8], &'static [u8]); 28] = [
     (&[F, 251, Q, 1, 0], b"field 251\nform 1\ncells 0 0 0 0\n"),
     // the top degree of each form
     (&[F, 2, Q, 1, 3], b"field 2\nform 1\ncells 0 0 0 0\n"),
+    (&[F, 2, Q, 2, 4], b"field 2\nform 2\ncells 0 0 0 0 0\n"),
+    (&[F, 2, Q, 3, 4], b"field 2\nform 3\ncells 0 0 0 0 0\n"),
     (&[F, 2, Q, 4, 3], b"field 2\nform 4\ncells 0 0 0 0\n"),
+    (&[F, 2, Q, 5, 6], b"field 2\nform 5\ncells 0 0 0 0 0 0 0\n"),
+    (&[F, 2, Q, 6, 4], b"field 2\nform 6\ncells 0 0 0 0 0\n"),
     // one voxel, the last voxel, and a pad alone
     (&[F, 2, V, 0, 0, 0, Q, 1, 0], b"field 2\nform 1\ncells 8 12 6 1\n"),
     (&[F, 2, V, 7, 7, 7, Q, 1, 0], b"field 2\nform 1\ncells 8 12 6 1\n"),
@@ -86,6 +90,23 @@ static REPORTS: [(&'static [u8], &'static [u8]); 28] = [
     // the form chooses between block and drawing
     (&[F, 2, V, 1, 2, 3, A, 4, Q, 1, 0], b"field 2\nform 1\ncells 8 12 6 1\n"),
     (&[F, 2, V, 1, 2, 3, A, 4, Q, 4, 0], b"field 2\nform 4\ncells 1 0 0 0\n"),
+    // two pads and a voxel between them: the cone, its dual, and the cone of the scalar 1
+    (&[F, 2, P, 0, 0, 0, V, 1, 0, 0, P, 2, 0, 0, Q, 2, 1], b"field 2\nform 2\ncells 16 44 40 15 2\n"),
+    (&[F, 251, P, 0, 0, 0, V, 1, 0, 0, P, 2, 0, 0, Q, 3, 1], b"field 251\nform 3\ncells 2 15 40 44 16\n"),
+    (&[F, 0, P, 0, 0, 0, V, 1, 0, 0, P, 2, 0, 0, Q, 6, 4], b"field 256\nform 6\ncells 16 44 44 19 3\n"),
+    // no pad, and a pad alone
+    (&[F, 3, V, 0, 0, 0, Q, 2, 0], b"field 3\nform 2\ncells 8 12 6 1 0\n"),
+    (&[F, 3, P, 0, 0, 0, Q, 2, 0], b"field 3\nform 2\ncells 8 20 18 7 1\n"),
+    (&[F, 3, P, 0, 0, 0, Q, 3, 0], b"field 3\nform 3\ncells 1 7 18 20 8\n"),
+    // a drawing tensor a voxel: an edge, the ring, and a part with no cells
+    (&[F, 5, V, 0, 0, 0, A, 3, A, 4, B, 3, 4, Q, 5, 2], b"field 5\nform 5\ncells 16 32 24 8 1 0 0\n"),
+    (
+        &[F, 7, V, 0, 0, 0, A, 0, A, 1, A, 2, B, 0, 1, B, 0, 2, B, 1, 2, Q, 5, 6],
+        b"field 7\nform 5\ncells 24 60 54 21 3 0 0\n",
+    ),
+    (&[F, 2, A, 0, Q, 5, 0], b"field 2\nform 5\ncells 0 0 0 0 0 0 0\n"),
+    (&[F, 2, V, 0, 0, 0, Q, 5, 0], b"field 2\nform 5\ncells 0 0 0 0 0 0 0\n"),
+    (&[F, 2, V, 0, 0, 0, A, 0, Q, 5, 0], b"field 2\nform 5\ncells 8 12 6 1 0 0 0\n"),
     // terms: the largest coefficient of a field, ascending numbers, the order that starts anew at the first Y
     (&[F, 2, Q, 1, 0, Z, 0, 0, 1], b"field 2\nform 1\ncells 0 0 0 0\n"),
     (&[F, 251, Q, 1, 0, Y, 0, 0, 250], b"field 251\nform 1\ncells 0 0 0 0\n"),

@@ -1,2 +1,4 @@
 pub mod Accepting
 pub mod Answering
+pub mod Counting
+pub mod Refusing

@@ -1,4 +1,2 @@
-pub mod Counts
 pub mod JobLaw
 pub mod Jobs
-pub mod Steps

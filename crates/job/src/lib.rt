@@ -1,71 +1,43 @@
 // Answers a job by a report.
 ghost use mathlib.Core.Path.{_≡_};
-ghost use lib.Dec.{eqb};
 ghost use lib.ListN.{length, replicate};
 ghost use Rattle.std.specs.Vec.{made};
+ghost use Rattle.forms.specs.Counts.{listing};
+ghost use Rattle.forms.specs.FormLaw.{Accepted};
+ghost use Rattle.forms.specs.Forms.{form-of};
 ghost use Rattle.reader.specs.Sheets.{Contents, Shows};
-ghost use Rattle.job.specs.JobLaw.{Accepted, Reported};
-ghost use Rattle.job.specs.Steps.{KeptClosed, Tested};
-ghost use Rattle.job.specs.Jobs.{answer, counted, fitting, verdict, written};
 ghost use Rattle.report.specs.Buffers.{overlay};
+ghost use Rattle.report.specs.Degrees.{listed};
 ghost use Rattle.report.specs.Lines.{report-text};
-
-mod counts;
-
-use cell::Cube;
-use cell::CubeCell;
-use cell::SimplexCell;
-use counts::count_cells;
-use index::LeafFault;
+ghost use Rattle.job.specs.JobLaw.{OnlyTooMany, Reported};
+ghost use Rattle.job.specs.Jobs.{answer, cells-of, fitting, lists-of, verdict, written};
+use forms::count_cells;
+use forms::form::form_of;
 use lists::block::block_of;
-use lists::working::WorkingList;
-use lists::working::check_working;
 use reader::fault::JobFault;
-use reader::fault::JobFaultFromLeaf;
 use reader::read::read;
 use reader::sheet::Sheet;
 use reader::turn::Progress;
+use report::ByDegree;
 use report::write_report;
 
-// The form that names the block.
-const BLOCK: u8 = 1;
-
-// The block, once every list has passed its test, whatever the form: block, pads, drawing.
-fn tested_block(sheet: &Sheet) -> Result<WorkingList<Cube>, LeafFault>
-    ensures is { λ r. ⌜ ((k : Contents) → Shows (now (sheet .entry)) k → Tested k r) ⌝ }
-    ensures kept { λ r. ⌜ made r (KeptClosed (now (sheet .entry))) ⌝ }
+// The cells of each degree of the complex that the form names.
+fn counts_of(sheet: &Sheet) -> Result<ByDegree, JobFault>
+    ensures is { λ r. ⌜ ((k : Contents) → Shows (now (sheet .entry)) k → listing r ≡ cells-of k) ⌝ }
+    ensures law { λ r. ⌜ ((k : Contents) → Shows (now (sheet .entry)) k →
+        made r (λ n. Accepted (form-of (k .progress .asked .0)) (lists-of k) (listed n))) ⌝ }
 {
     let block = block_of(&sheet.filled);
-    check_working(&block)?;
     let pads = block_of(&sheet.pads);
-    check_working(&pads)?;
-    check_working(&sheet.drawing)?;
-    Ok(block)
+    let form = form_of(sheet.progress.asked.0);
+    count_cells(sheet.progress.order, form, &block, &pads, &sheet.drawing)
 }
 
-fn names_block(form: u8) -> bool
-    ensures { λ r. ⌜ r ≡ eqb form 1 ⌝ }
-{
-    form == BLOCK
-}
-
-// The cells of each degree of the complex that the form names.
-fn counts_of(sheet: &Sheet) -> Result<[usize; 4], LeafFault>
-    ensures is { λ r. ⌜ ((k : Contents) → Shows (now (sheet .entry)) k → r ≡ counted k) ⌝ }
-    ensures law { λ r. ⌜ ((k : Contents) → Shows (now (sheet .entry)) k → made r (Accepted k)) ⌝ }
-{
-    let block = tested_block(sheet)?;
-    let order = sheet.progress.order;
-    if names_block(sheet.progress.asked.0) {
-        Ok(count_cells(order, block.cells()))
-    } else {
-        Ok(count_cells(order, sheet.drawing.cells()))
-    }
-}
-
-fn write_lines(report: &mut [u8], progress: Progress, cells: &[usize; 4]) -> usize
-    ensures place { λ r. ⌜ r ≡ length (report-text (progress .order) (progress .asked .0) (now (cells .entry))) ⌝ }
-    ensures bytes { λ _. ⌜ now (report .exit) ≡ overlay (now (report .entry)) (report-text (progress .order) (progress .asked .0) (now (cells .entry))) ⌝ }
+fn write_lines(report: &mut [u8], progress: Progress, cells: &ByDegree) -> usize
+    ensures place { λ r. ⌜ r ≡ length
+        (report-text (progress .order) (progress .asked .0) (listed (now (cells .entry)))) ⌝ }
+    ensures bytes { λ _. ⌜ now (report .exit) ≡ overlay (now (report .entry))
+        (report-text (progress .order) (progress .asked .0) (listed (now (cells .entry)))) ⌝ }
 {
     let (form, _) = progress.asked;
     write_report(report, progress.order as usize, form as usize, cells)
@@ -87,6 +59,7 @@ fn answer_job(input: &[u8], report: &mut [u8]) -> Result<usize, JobFault>
     ensures answer { λ r. ⌜ r ≡ answer (length (now (report .entry))) (verdict (now (input .entry))) ⌝ }
     ensures report { λ _. ⌜ now (report .exit) ≡ written (now (report .entry)) (verdict (now (input .entry))) ⌝ }
     ensures law { λ r. ⌜ made r (Reported (now (input .entry))) ⌝ }
+    ensures layers { λ r. ⌜ OnlyTooMany r ⌝ }
 {
     let sheet = read(input)?;
     let cells = counts_of(&sheet)?;
@@ -109,6 +82,7 @@ pub fn job(input: &[u8], table: &mut [u8], report: &mut [u8]) -> Result<usize, J
     ensures report { λ _. ⌜ now (report .exit) ≡ written (now (report .entry)) (verdict (now (input .entry))) ⌝ }
     ensures table { λ _. ⌜ now (table .exit) ≡ replicate (length (now (table .entry))) 0 ⌝ }
     ensures law { λ r. ⌜ made r (Reported (now (input .entry))) ⌝ }
+    ensures layers { λ r. ⌜ OnlyTooMany r ⌝ }
 {
     let answer = answer_job(input, report);
     clear(table);

@@ -3,3 +3,4 @@ pub mod Blocks
 pub mod Chosen
 pub mod Nearness
 pub mod BlockLaws
+pub mod Including

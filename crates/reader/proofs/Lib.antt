@@ -13,3 +13,4 @@ pub mod Singles
 pub mod Taking
 pub mod Tellings
 pub mod Walks
+pub mod Padding

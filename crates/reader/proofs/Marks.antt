@@ -22,13 +22,13 @@ marked-append flags (m ∷ ms) ns = marked-append (set flags m true) ms ns
 has-none : (n : ℕ) → Has [] n → ⊥
 has-none n h = let less = h .1 in omega arith
 
-has-here : (m n : ℕ) (ns : List ℕ) → n ≡ m → Has (m ∷ ns) n
+pub has-here : (m n : ℕ) (ns : List ℕ) → n ≡ m → Has (m ∷ ns) n
 has-here m n ns e = (0, omega arith, λ d. sym e)
 
-has-there : (m n : ℕ) (ns : List ℕ) → Has ns n → Has (m ∷ ns) n
+pub has-there : (m n : ℕ) (ns : List ℕ) → Has ns n → Has (m ∷ ns) n
 has-there m n ns h = (suc (h .0), omega (arith, h .1), h .2)
 
-has-cases : (m n : ℕ) (ns : List ℕ) → Has (m ∷ ns) n → (n ≡ m) ⊎ Has ns n
+pub has-cases : (m n : ℕ) (ns : List ℕ) → Has (m ∷ ns) n → (n ≡ m) ⊎ Has ns n
 has-cases m n ns (zero, less, is) = inl (sym (is 0))
 has-cases m n ns (suc k, less, is) = inr (k, omega (arith, less), is)
 

@@ -83,9 +83,12 @@ names-field b = eqb b 0 || (eqb b 2 || (eqb b 3 || (eqb b 5 || (eqb b 7 || eqb b
 abbrev pub voxel-in-range : Voxel → Bool
 voxel-in-range v = leb (v .x) 7 && (leb (v .y) 7 && leb (v .z) 7)
 
--- the top degree of the complex that a form names: 1 is the block, 4 is the drawing
+-- the top degree of the complex that a form names: 1 is the block, 2 the cone of the pads in the block, 3 the dual of
+-- that cone, 4 the drawing, 5 the drawing tensor the block, 6 the cone of the scalar 1 on the block
 abbrev pub top-of : ℕ → Option ℕ
-top-of form = cond (eqb form 1 || eqb form 4) (Some 3) None
+top-of form =
+    cond (eqb form 1 || eqb form 4) (Some 3)
+    (cond (eqb form 2 || (eqb form 3 || eqb form 6)) (Some 4) (cond (eqb form 5) (Some 6) None))
 
 abbrev pub at-most : ℕ → Option ℕ → Bool
 at-most degree (Some top) = leb degree top

@@ -1,8 +1,10 @@
 // The faults of a job.
 ghost use mathlib.Core.Path.{_≡_};
 ghost use Rattle.reader.specs.Faults.{flaw-number, job-refusal};
-ghost use Rattle.reader.specs.declared.fault.JobFault.the-variants.{Leaf};
+ghost use Rattle.reader.specs.declared.fault.JobFault.the-variants.{Leaf, Pile};
 use crate::record::Flaw;
+use complex::fault::PileFault;
+use complex::fault::PileFaultFault;
 use index::LeafFault;
 use index::LeafFaultFault;
 use refusal::Fault;
@@ -15,6 +17,7 @@ pub enum JobFault {
     TooLong,
     Flawed(Flaw, usize),
     Leaf(LeafFault),
+    Pile(PileFault),
     ReportTooLong(usize),
 }
 
@@ -23,6 +26,14 @@ pub impl From<LeafFault> for JobFault as JobFaultFromLeaf {
 
     fn from(e: LeafFault) -> JobFault {
         JobFault::Leaf(e)
+    }
+}
+
+pub impl From<PileFault> for JobFault as JobFaultFromPile {
+    ghost converts = { λ e r. r ≡ Pile e };
+
+    fn from(e: PileFault) -> JobFault {
+        JobFault::Pile(e)
     }
 }
 
@@ -54,6 +65,7 @@ pub impl Fault for JobFault as JobFaultFault {
                 place: *at,
             },
             JobFault::Leaf(fault) => fault.refusal(),
+            JobFault::Pile(fault) => fault.refusal(),
             JobFault::ReportTooLong(len) => Refusal {
                 number: 18,
                 layer: Layer::Job,

@@ -83,6 +83,8 @@ pub fn top_of(form: u8) -> Option<u8>
 {
     match form {
         1 | 4 => Some(3),
+        2 | 3 | 6 => Some(4),
+        5 => Some(6),
         _ => None,
     }
 }

@@ -8,7 +8,25 @@ ghost use Prim.Native.Nat.{_+_, _*_, _<_, _≤_, _^_};
 ghost use lib.ListN.{length};
 ghost use Rattle.std.specs.Written.{decimal};
 ghost use Rattle.report.specs.Buffers.{Puts, overlay};
+ghost use Rattle.report.specs.Degrees.{listed};
 ghost use Rattle.report.specs.Lines.{line, numbers, report-text};
+
+// A number for each degree from 0 to a top; past degree 8 there is none.
+#[derive(Clone, Copy)]
+pub struct ByDegree {
+    pub numbers: [usize; 9],
+    pub top: usize,
+}
+
+impl ByDegree {
+    fn listed(&self) -> &[usize]
+        ensures is { λ r. ⌜ now r ≡ listed (now (self .entry)) ⌝ }
+        ensures few { λ r. ⌜ length (now r) ≤ 9 ⌝ }
+    {
+        let all = &self.numbers[..];
+        &all[0..self.top.min(8) + 1]
+    }
+}
 
 fn put_byte(out: &mut [u8], at: usize, byte: u8) -> usize
     requires { ⌜ at + 1 < 2 ^ 64 ⌝ }
@@ -70,11 +88,12 @@ fn put_line(out: &mut [u8], at: usize, word: &[u8], ns: &[usize]) -> usize
 }
 
 // The lines field, form and cells; the answer is the length of the whole text.
-pub fn write_report(out: &mut [u8], order: usize, form: usize, cells: &[usize; 4]) -> usize
-    ensures place { λ r. ⌜ r ≡ length (report-text order form (now (cells .entry))) ⌝ }
-    ensures bytes { λ _. ⌜ now (out .exit) ≡ overlay (now (out .entry)) (report-text order form (now (cells .entry))) ⌝ }
+pub fn write_report(out: &mut [u8], order: usize, form: usize, cells: &ByDegree) -> usize
+    ensures place { λ r. ⌜ r ≡ length (report-text order form (listed (now (cells .entry)))) ⌝ }
+    ensures bytes { λ _. ⌜ now (out .exit) ≡ overlay (now (out .entry))
+        (report-text order form (listed (now (cells .entry)))) ⌝ }
 {
     let after_field = put_line(out, 0, b"field", &[order]);
     let after_form = put_line(out, after_field, b"form", &[form]);
-    put_line(out, after_form, b"cells", cells)
+    put_line(out, after_form, b"cells", cells.listed())
 }
