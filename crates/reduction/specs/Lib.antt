@@ -1,0 +1,9 @@
+pub mod Matrices
+pub mod Chains
+pub mod Reductions
+pub mod Cancelling
+pub mod Classes
+pub mod Dimensions
+pub mod Survivors
+pub mod Ring
+pub mod Laws
