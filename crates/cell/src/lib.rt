@@ -1,4 +1,6 @@
 // Cells with signed faces.
+#![tactic(auto)]
+
 ghost use Rattle.std.specs.Prelude.{◌≡◌, length};
 ghost use Rattle.std.specs.List.{slice_get};
 ghost use Rattle.cell.specs.Kind.{Kind, IsKind};

@@ -55,8 +55,8 @@ fn check_refused(rt: &impl Abort, input: &[u8], want: Refusal) -> Result<(), Fai
     let mut table = [BEFORE; 100];
     let mut report = [BEFORE; 64];
     match job(input, &mut table, &mut report) {
-        Ok(_) => return Err(Fail::new(format_args!("a report and not: {want}"))),
-        Err(fault) => assert_eq!(rt; fault.refusal(), want),
+        Ok(_) => return Err(Fail::new(format_args!("a report and not: {want}, of {input:?}"))),
+        Err(fault) => assert_eq!(rt; fault.refusal(), want, "of {input:?}"),
     }
     check_filled(rt, &table, 0)?;
     check_filled(rt, &report, BEFORE)

@@ -1,4 +1,6 @@
 // Tests of the job call and of the layers below it. What they expect was worked out from the rules.
+#![tactic(auto)]
+
 #[cfg(test)]
 mod asking;
 #[cfg(test)]

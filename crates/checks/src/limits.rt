@@ -1,6 +1,7 @@
 // Both sides of each limit.
 use crate::asking::*;
 use std::alloc::{AllocError, Global};
+use std::test::Fail;
 
 // 37 voxels. 36 stand two apart and share no cube; (7, 7, 3) has one corner in common with (6, 6, 2). Their cubes
 // are 36 * 27 + 26 = 998.

@@ -18,6 +18,7 @@ use maps::inclusion::check_inclusion;
 use maps::scalar::Scalar;
 use refusal::{Fault, Layer, Refusal};
 use std::process::Abort;
+use std::test::Fail;
 use tensor::{Tensor, check_tensor};
 
 // The dual of the tensor of the edge with the dual of the cone of the scalar 2 on the edge.

@@ -1,5 +1,6 @@
 // Jobs that are refused.
 use crate::asking::*;
+use std::test::Fail;
 
 // The number and the place of each refusal by the job.
 static FAULTY: [(&'static [u8], u8, usize); 89] = [
@@ -132,7 +133,7 @@ static OPEN: [(&'static [u8], usize); 7] = [
 #[test]
 fn faulty_records_are_refused(rt: HostRuntime) -> Result<(), Fail> {
     for (input, number, place) in FAULTY.iter() {
-        check_refused_by_job(&rt, input, *number, *place).note(format_args!("{input:?}"))?;
+        check_refused_by_job(&rt, input, *number, *place)?;
     }
     Ok(())
 }

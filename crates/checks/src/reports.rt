@@ -3,6 +3,7 @@ use crate::asking::*;
 use job::job;
 use refusal::{Fault, Layer, Refusal};
 use std::process::Abort;
+use std::test::Fail;
 
 // Three vertices and three edges over the field of 3.
 static RING: [u8; 20] = [F, 3, A, 0, A, 1, A, 2, B, 0, 1, B, 0, 2, B, 1, 2, Q, 4, 1];

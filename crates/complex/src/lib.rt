@@ -1,4 +1,6 @@
 // Chain complexes over a field.
+#![tactic(auto)]
+
 ghost use Rattle.std.specs.Prelude.{◌≡◌, ◌≤◌};
 ghost use Rattle.linear.specs.Complexes.{Meaning, IsComplex, WithinLimits};
 ghost use Rattle.complex.specs.Limits.{cells};

@@ -1,4 +1,6 @@
 // Finite fields of one-byte codes: what a field is, and the prime fields.
+#![tactic(auto)]
+
 ghost use Rattle.std.specs.Prelude.{◌≡◌, ℕ, refl};
 ghost use Rattle.field.specs.Codes.{Codes, IsField};
 ghost use Rattle.field.specs.Residues.{residues, IsPrime};

@@ -1,6 +1,8 @@
 // The field of 256 elements: polynomials over two elements modulo t^8 + t^4 + t^3 + t^2 + 1.
 //
 // Every code but 0 is a power of t, so that products and inverses are computed by two tables.
+#![tactic(auto)]
+
 ghost use Rattle.field256.specs.Polynomials.{polynomials};
 ghost use Rattle.field256.specs.PolynomialField.{polynomials_field};
 

@@ -1,4 +1,6 @@
 // The complexes that the forms of a job name, and how many cells they have.
+#![tactic(auto)]
+
 ghost use Rattle.std.specs.Prelude.{◌≡◌, IfOk, OnOk};
 ghost use Rattle.report.specs.Degrees.{listed};
 ghost use Rattle.forms.specs.Counts.{listing};

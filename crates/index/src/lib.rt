@@ -1,4 +1,6 @@
 // Lists of cells: the face index and the test of a closed list.
+#![tactic(auto)]
+
 ghost use Rattle.std.specs.Prelude.{◌≡◌, List, length};
 ghost use Rattle.std.specs.List.{slice_get};
 ghost use Rattle.refusal.specs.declared.Layer.TheVariants.{Leaf};

@@ -1,4 +1,6 @@
 // Answers a job by a report.
+#![tactic(auto)]
+
 ghost use Rattle.std.specs.Prelude.{◌≡◌, length, replicate, IfOk};
 ghost use Rattle.forms.specs.Counts.{listing};
 ghost use Rattle.forms.specs.FormLaw.{Accepted};

@@ -1,1 +1,2 @@
 // The mathematics of chain complexes over fields of codes.
+#![tactic(auto)]

@@ -1,3 +1,5 @@
 // The lists of cells that a job works on.
+#![tactic(auto)]
+
 pub mod block;
 pub mod working;

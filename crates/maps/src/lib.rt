@@ -1,4 +1,6 @@
 // Chain maps between complexes over one field, and the mapping cone.
+#![tactic(auto)]
+
 ghost use Rattle.std.specs.Prelude.{◌≡◌};
 ghost use Rattle.linear.specs.ChainMaps.{MapMeaning, IsChainMap};
 

@@ -1,4 +1,6 @@
 // Reads a job on standard input, and prints its report or one line that refuses it.
+#![tactic(auto)]
+
 use anyhow::anyhow;
 use refusal::Fault;
 use std::io::{Read, Write};

@@ -1,4 +1,6 @@
 // Reads a job: its records in their order, and what they say.
+#![tactic(auto)]
+
 pub mod fault;
 pub mod read;
 pub mod record;

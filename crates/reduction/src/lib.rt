@@ -1,5 +1,7 @@
 // Reductions of chain complexes to survivors: mathematics only. Each function stands for the theorem in its
 // contract and does nothing.
+#![tactic(auto)]
+
 ghost use Rattle.reduction.specs.Laws.{LoadingReduces, CancellingKeeps, CancelsKeep, CancelsEnd};
 ghost use Rattle.reduction.specs.Laws.{CancelsComplete, RowsStayZero, LoadedCellsAreLive};
 ghost use Rattle.reduction.specs.Laws.{ClassesTell, EqualClasses, HomotopyFills, ClassCodesAreReached};

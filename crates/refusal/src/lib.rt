@@ -1,4 +1,6 @@
 // What is sent back in place of an answer: a number of the closed list, the layer that refused, and a place.
+#![tactic(auto)]
+
 ghost use Rattle.std.specs.Prelude.{◌≡◌, Some};
 ghost use Rattle.refusal.specs.Words.{layer_word, refusal_text};
 ghost use Rattle.refusal.specs.declared.Refusal.{Refusal};

@@ -2,6 +2,8 @@
 //
 // Every function takes the place to write at, and answers the place after what it wrote. Where the buffer
 // ends, bytes are left out and places go on, so that the last place is the length of the whole text.
+#![tactic(auto)]
+
 ghost use Rattle.std.specs.Prelude.{◌≡◌, ◌+◌, ◌*◌, ◌^◌, ◌<◌, ◌≤◌, [], ◌∷◌, length, decimal};
 ghost use Rattle.report.specs.Buffers.{Puts, overlay};
 ghost use Rattle.report.specs.Degrees.{listed};

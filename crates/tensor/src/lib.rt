@@ -1,6 +1,8 @@
 // The tensor of two complexes over one field.
 //
 // A call of a complex's law brings in what is known of it; it does nothing when it runs.
+#![tactic(auto)]
+
 ghost use Rattle.std.specs.Prelude.{◌≡◌, suc, ◌*◌, ◌≤◌, Some};
 ghost use Rattle.linear.specs.Complexes.{WithinLimits};
 ghost use Rattle.linear.specs.Sums.{total};

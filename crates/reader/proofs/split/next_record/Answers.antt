@@ -11,7 +11,7 @@ pub returns-in-len1-up : goal.returns-in-len1-up
 returns-in-len1-up c =
     let xs = c.args.job.now in
     let some : 1 ≤ length xs = search rules in
-    let short : Shorter kinds (get_or xs 0 0) (length xs) = elim c.in-len1-up·.branch [
+    let short : Shorter kinds (get_or xs 0 0) (length xs) = elim c.in-len1-up-1.branch [
       | then-job-lt2 w ↦ (let less : length xs < 2 = search rules in (λ e. omega arith, (λ e. omega arith, (λ e. omega arith, (λ e. omega arith, (λ e. omega arith, (λ e. omega arith, (λ e. omega arith, (λ e. omega arith, (λ e. omega arith, (λ e. omega arith, tt)))))))))))
       | else-job-lt2+then-job-lt3+in-default· w ↦ (let less : length xs < 3 = search rules in (λ e. omega arith, (λ e. omega arith, (λ e. omega arith, (λ e. omega arith, (λ e. omega arith, (λ e. omega arith, (λ e. omega arith, (λ e. omega arith, (λ e. omega arith, (λ e. omega arith, tt)))))))))))
       | else-job-lt2+else-job-lt3+then-job-lt4+in-default· w ↦ (let less : length xs < 4 = search rules in (λ e. omega arith, (λ e. omega arith, (λ e. omega arith, (λ e. omega arith, (λ e. omega arith, (λ e. omega arith, (λ e. omega arith, (λ e. omega arith, (λ e. omega arith, (λ e. omega arith, tt)))))))))))
