@@ -4,8 +4,8 @@ use Rattle.linear.specs.Sums.{total}
 use Rattle.linear.proofs.Totals.{total_le, total_more}
 use Rattle.complex.proofs.count_cells.Goals as goal
 
-pub overflow-add-n : goal.overflow-add-n
-overflow-add-n g c =
+pub overflow_add-n : goal.overflow_add-n
+overflow_add-n g c =
     let m = g.C.Complex.meaning c.args.c.now in let k = c.loop-k.k in
     let more = total_more k m.dim in
     let part = total_le (k + 1) (suc m.top) m.dim (omega arith) in

@@ -6,8 +6,8 @@ use Rattle.forms.proofs.check_lists.Goals as goal
 
 pub returns : goal.returns
 returns c =
-    let block = c.in-ok-check-working.ensures in let pads = c.in-ok-check-working-2.ensures in
-    let drawing = c.check-working-3.ensures in let r = c.check-working-3.result in
+    let block = c.in_ok-check_working.ensures in let pads = c.in_ok-check_working-2.ensures in
+    let drawing = c.check_working-3.ensures in let r = c.check_working-3.result in
     record {
       is = λ l h.
           drawing.is l.drawing h.drawing

@@ -5,16 +5,16 @@ use Rattle.report.proofs.+put_number.Goals as goal
 
 pub returns-then-n-lt10 : goal.returns-then-n-lt10
 returns-then-n-lt10 t c = record {
-  puts = puts_as (digit_is c.args.n c.if-n-lt10.true) c.put-byte.ensures;
-  short = omega (arith, c.put-byte.ensures.place);
+  puts = puts_as (digit_is c.args.n c.if-n-lt10.true) c.put_byte.ensures;
+  short = omega (arith, c.put_byte.ensures.place);
 }
 
-pub put-byte-requires-2 : goal.put-byte-requires-2
-put-byte-requires-2 t c =
-    omega (arith, c.put-number-end.ensures.puts.place, length_decimal (c.args.n / 10) (omega arith))
+pub put_byte-requires-2 : goal.put_byte-requires-2
+put_byte-requires-2 t c =
+    omega (arith, c.put_number-end.ensures.puts.place, length_decimal (c.args.n / 10) (omega arith))
 
 pub returns : goal.returns
 returns t c =
     let all = puts_as (last_digit_is c.args.n c.if-n-lt10.false (omega arith))
-    (puts_then c.put-number-end.ensures.puts c.put-byte-2.ensures) in
+    (puts_then c.put_number-end.ensures.puts c.put_byte-2.ensures) in
     record { puts = all; short = omega (arith, all.place, length_decimal c.args.n (omega arith)) }

@@ -6,14 +6,14 @@ use Rattle.report.proofs.put.Goals as goal
 pub loop-byte-init : goal.loop-byte-init
 loop-byte-init c = puts_none c.args.out.now c.args.at
 
-pub put-byte-end-requires : goal.put-byte-end-requires
-put-byte-end-requires c =
+pub put_byte-end-requires : goal.put_byte-end-requires
+put_byte-end-requires c =
     omega (arith, c.loop-byte.invariant.place, length-take-le c.loop-byte.byte-index c.args.text.now (omega arith))
 
 pub loop-byte-preserved : goal.loop-byte-preserved
 loop-byte-preserved c =
     puts_as (sym (take_more c.args.text.now c.loop-byte.byte-index 0 (omega arith)))
-    (puts_then c.loop-byte.invariant c.put-byte-end.ensures)
+    (puts_then c.loop-byte.invariant c.put_byte-end.ensures)
 
 pub returns : goal.returns
 returns c = puts_as (take_all c.loop-byte.byte-index c.args.text.now (omega arith)) c.loop-byte.invariant

@@ -4,6 +4,6 @@ use Rattle.report.proofs.put_line.Goals as goal
 
 pub returns : goal.returns
 returns c = record {
-  puts = puts_then c.put-after-word.ensures (puts_then c.put-numbers-after-numbers.ensures.puts c.put-byte.ensures);
-  short = omega (arith, c.put-after-word.ensures.place, c.put-byte.ensures.place);
+  puts = puts_then c.put-after_word.ensures (puts_then c.put_numbers-after_numbers.ensures.puts c.put_byte.ensures);
+  short = omega (arith, c.put-after_word.ensures.place, c.put_byte.ensures.place);
 }

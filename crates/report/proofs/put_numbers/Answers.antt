@@ -11,8 +11,8 @@ loop-n-init c = (puts_none c.args.out.now c.args.at, omega arith)
 pub loop-n-preserved : goal.loop-n-preserved
 loop-n-preserved c = (
   puts_as (numbers_more c.args.ns.now c.loop-n.n-index (omega arith))
-      (puts_then c.loop-n.invariant.0 (puts_then c.put-byte-next.ensures c.put-number-end.ensures.puts)),
-  omega (arith, c.put-byte-next.ensures.place),
+      (puts_then c.loop-n.invariant.0 (puts_then c.put_byte-next.ensures c.put_number-end.ensures.puts)),
+  omega (arith, c.put_byte-next.ensures.place),
 )
 
 pub returns : goal.returns

@@ -6,7 +6,7 @@ use Rattle.report.proofs.write_report.Goals as goal
 pub returns : goal.returns
 returns c =
     let cells = puts_as (ap (λ (ns : List ℕ). line (codes "cells") ns) c.listed.ensures.is)
-    c.put-line.ensures.puts in
-    let all = overlay_puts (puts_then c.put-line-after-field.ensures.puts
-    (puts_then c.put-line-after-form.ensures.puts cells)) in
+    c.put_line.ensures.puts in
+    let all = overlay_puts (puts_then c.put_line-after_field.ensures.puts
+    (puts_then c.put_line-after_form.ensures.puts cells)) in
     record { place = all.0; bytes = all.1 }

@@ -4,8 +4,8 @@ use Rattle.linear.specs.Tensor.{block}
 use Rattle.linear.proofs.tensor.Counts.{block_le}
 use Rattle.tensor.proofs.count_block.Goals as goal
 
-pub overflow-mul-result : goal.overflow-mul-result
-overflow-mul-result g c =
+pub overflow_mul-result : goal.overflow_mul-result
+overflow_mul-result g c =
     let a = g.C.Complex.meaning c.args.c.now in let b = g.D.Complex.meaning c.args.d.now in
     let is : c.dim.result * c.dim-2.result ≡ block a b c.args.k c.args.p = cc in
     let few = block_le g.C.F.Field.codes a b c.law.ensures.complex c.law.ensures.limits

@@ -14,7 +14,7 @@ pub loop-f-preserved : goal.loop-f-preserved
 loop-f-preserved g c =
     let f = g.F.Field.codes in let k = g.K.Cell.kind in let l = c.loop-f in
     let x = c.args.g.now in let xs = k.faces c.args.c.now in
-    incidence_more f k x xs l.f (incidence f k x xs) l.invariant c.in-default.ensures
+    incidence_more f k x xs l.f (incidence f k x xs) l.invariant c.in_default.ensures
 
 pub returns : goal.returns
 returns g c =

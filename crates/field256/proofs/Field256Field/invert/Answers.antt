@@ -9,6 +9,6 @@ returns-then-a-eq0 c = sym (ap (λ n. polynomials.inverse n) c.if-a-eq0.true ∙
 
 pub returns : goal.returns
 returns c =
-    ap Some c.read-power.ensures
-    ∙ sym (inverse_power c.read-logarithm.result c.args.a
-    c.read-logarithm.ensures.below c.read-logarithm.ensures.exponent)
+    ap Some c.read_power.ensures
+    ∙ sym (inverse_power c.read_logarithm.result c.args.a
+    c.read_logarithm.ensures.below c.read_logarithm.ensures.exponent)

@@ -13,7 +13,7 @@ returns-then-a-eq0 c =
 
 pub returns : goal.returns
 returns c =
-    c.read-power.ensures
-    ∙ product_power c.read-logarithm.result c.read-logarithm-2.result c.args.a c.args.b
-    c.read-logarithm.ensures.below c.read-logarithm-2.ensures.below
-    c.read-logarithm.ensures.exponent c.read-logarithm-2.ensures.exponent
+    c.read_power.ensures
+    ∙ product_power c.read_logarithm.result c.read_logarithm-2.result c.args.a c.args.b
+    c.read_logarithm.ensures.below c.read_logarithm-2.ensures.below
+    c.read_logarithm.ensures.exponent c.read_logarithm-2.ensures.exponent

@@ -6,9 +6,9 @@ use Rattle.forms.specs.Counts.{listing}
 use Rattle.forms.proofs.Counting.{measured_dual_refused}
 use Rattle.forms.proofs.pile.measure_cone_dual.Goals as goal
 
-pub returns-in-err-check-cone : goal.returns-in-err-check-cone
-returns-in-err-check-cone g c =
-    let p = err_from_is_err_and c.from-residual.result c.from-residual.ensures.1 in
+pub returns-in_err-check_cone : goal.returns-in_err-check_cone
+returns-in_err-check_cone g c =
+    let p = err_from_is_err_and c.from_residual.result c.from_residual.ensures.1 in
     let m = cone g.M.F.Field.codes (g.M.ChainMap.meaning c.args.map) in
     ap listing p.1 ∙ ap Err p.2
-    ∙ sym (measured_dual_refused m c.in-err-check-cone.field-0.0 c.in-err-check-cone.ensures.is)
+    ∙ sym (measured_dual_refused m c.in_err-check_cone.field-0.0 c.in_err-check_cone.ensures.is)

@@ -8,10 +8,10 @@ use Rattle.lists.proofs.block.block_of.Goals as goal
 pub loop-n-init : goal.loop-n-init
 loop-n-init c = subst (Holds _) (sym (block_below_none c.args.voxels.now)) c.new-list.ensures
 
-pub returns-then-is-overfull : goal.returns-then-is-overfull
-returns-then-is-overfull c = record {
+pub returns-then-is_overfull : goal.returns-then-is_overfull
+returns-then-is_overfull c = record {
   holds = overfull_early c.args.voxels.now c.loop-n.n (omega arith) c.loop-n.list c.loop-n.invariant
-      (sym c.is-overfull.ensures ∙ c.if-is-overfull.true);
+      (sym c.is_overfull.ensures ∙ c.if-is_overfull.true);
   law = is_block c.args.voxels.now;
 }
 
@@ -28,9 +28,9 @@ returns c =
       law = is_block c.args.voxels.now;
     }
 
-pub returns-then-is-blank : goal.returns-then-is-blank
-returns-then-is-blank c = record {
-  holds = subst (Holds c.new-list.result) (block_blank c.args.voxels.now (c.is-blank.ensures.0 c.if-is-blank.true))
+pub returns-then-is_blank : goal.returns-then-is_blank
+returns-then-is_blank c = record {
+  holds = subst (Holds c.new-list.result) (block_blank c.args.voxels.now (c.is_blank.ensures.0 c.if-is_blank.true))
       c.new-list.ensures;
   law = is_block c.args.voxels.now;
 }

@@ -4,8 +4,8 @@ use Rattle.lists.specs.Block.{chosen, cube_of}
 use Rattle.lists.specs.Working.{Holds}
 use Rattle.lists.proofs.block.choose.Goals as goal
 
-pub returns-else-is-chosen : goal.returns-else-is-chosen
-returns-else-is-chosen c = λ cs h.
-    let not : chosen c.args.voxels.now c.args.n ≡ false = sym c.is-chosen.ensures ∙ c.if-is-chosen.false in
+pub returns-else-is_chosen : goal.returns-else-is_chosen
+returns-else-is_chosen c = λ cs h.
+    let not : chosen c.args.voxels.now c.args.n ≡ false = sym c.is_chosen.ensures ∙ c.if-is_chosen.false in
     subst (Holds c.args.list.now)
     (sym (ap (λ (b : Bool). cs ++ cond b (cube_of c.args.n ∷ []) []) not ∙ append-nil cs)) h

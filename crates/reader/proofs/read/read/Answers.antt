@@ -9,34 +9,34 @@ use Rattle.reader.proofs.Walks.{read_ended, read_job_long, read_job_walk, read_m
 use Rattle.reader.proofs.Walks.{step_shorter}
 use Rattle.reader.proofs.read.read.Goals as goal
 
-pub returns-then-job-gt-LONGEST-JOB : goal.returns-then-job-gt-LONGEST-JOB
-returns-then-job-gt-LONGEST-JOB c = record {
-  is = read_job_long c.args.job.now c.if-job-gt-LONGEST-JOB.true;
-  law = read_law c.args.job.now c.type-inv.job;
+pub returns-then-job-gt-LONGEST_JOB : goal.returns-then-job-gt-LONGEST_JOB
+returns-then-job-gt-LONGEST_JOB c = record {
+  is = read_job_long c.args.job.now c.if-job-gt-LONGEST_JOB.true;
+  law = read_law c.args.job.now c.type_inv.job;
 }
 
 pub loop-rest-init : goal.loop-rest-init
 loop-rest-init c = (length c.args.job.now, blank, omega arith, omega arith, c.new-sheet.ensures, refl)
 
-pub returns-in-err-rest : goal.returns-in-err-rest
-returns-in-err-rest c =
-    let p = err_from_is_err_and c.from-residual.result c.from-residual.ensures.1 in
+pub returns-in_err-rest : goal.returns-in_err-rest
+returns-in_err-rest c =
+    let p = err_from_is_err_and c.from_residual.result c.from_residual.ensures.1 in
     let i = c.loop-rest.invariant in
     let rest = c.loop-rest.rest.now in
     let some = some_left (length rest) c.loop-rest-test.ensures in
-    let walk : read_job c.args.job.now ≡ Err c.in-err-rest.field-0.0 =
-    read_job_walk c.args.job.now c.if-job-gt-LONGEST-JOB.false ∙ i.5
-    ∙ read_stopped i.0 (length c.args.job.now) i.1 rest c.in-err-rest.field-0.0 some i.2
-    (c.in-err-rest.ensures i.1 i.4) in
-    record { is = rw (p.1, p.2) walk; law = read_law c.args.job.now c.type-inv.job }
+    let walk : read_job c.args.job.now ≡ Err c.in_err-rest.field-0.0 =
+    read_job_walk c.args.job.now c.if-job-gt-LONGEST_JOB.false ∙ i.5
+    ∙ read_stopped i.0 (length c.args.job.now) i.1 rest c.in_err-rest.field-0.0 some i.2
+    (c.in_err-rest.ensures i.1 i.4) in
+    record { is = rw (p.1, p.2) walk; law = read_law c.args.job.now c.type_inv.job }
 
 pub loop-rest-smaller : goal.loop-rest-smaller
 loop-rest-smaller c =
     let i = c.loop-rest.invariant in
     let rest = c.loop-rest.rest.now in
-    let s = c.in-ok-rest.ensures i.1 i.4 in
+    let s = c.in_ok-rest.ensures i.1 i.4 in
     let some = some_left (length rest) c.loop-rest-test.ensures in
-    step_shorter (length c.args.job.now - length rest) i.1 s.0 rest c.in-ok-rest.rest.now some
+    step_shorter (length c.args.job.now - length rest) i.1 s.0 rest c.in_ok-rest.rest.now some
     s.1
 
 pub loop-rest-preserved : goal.loop-rest-preserved
@@ -44,41 +44,41 @@ loop-rest-preserved c =
     let i = c.loop-rest.invariant in
     let rest = c.loop-rest.rest.now in
     let whole = length c.args.job.now in
-    let s = c.in-ok-rest.ensures i.1 i.4 in
+    let s = c.in_ok-rest.ensures i.1 i.4 in
     let some = some_left (length rest) c.loop-rest-test.ensures in
-    let less = step_shorter (whole - length rest) i.1 s.0 rest c.in-ok-rest.rest.now some s.1 in (
+    let less = step_shorter (whole - length rest) i.1 s.0 rest c.in_ok-rest.rest.now some s.1 in (
       i.0 - 1,
       s.0,
       omega (arith, less, i.2),
       omega (arith, less, i.3),
       s.2,
-      i.5 ∙ read_more i.0 whole i.1 s.0 rest c.in-ok-rest.rest.now some i.2 s.1,
+      i.5 ∙ read_more i.0 whole i.1 s.0 rest c.in_ok-rest.rest.now some i.2 s.1,
     )
 
-pub returns-then-is-asked : goal.returns-then-is-asked
-returns-then-is-asked c =
+pub returns-then-is_asked : goal.returns-then-is_asked
+returns-then-is_asked c =
     let i = c.loop-rest.invariant in
     let none : length c.loop-rest.rest.now ≡ 0 = search rules in
     record {
       is = (
         i.1,
-        read_job_walk c.args.job.now c.if-job-gt-LONGEST-JOB.false ∙ i.5
+        read_job_walk c.args.job.now c.if-job-gt-LONGEST_JOB.false ∙ i.5
             ∙ read_ended i.0 (length c.args.job.now) i.1 c.loop-rest.rest.now none
             ∙ ap (λ (b : Bool). cond b (Ok i.1) (Err (Flawed OutOfTurn (length c.args.job.now))))
-            (sym (c.is_asked.ensures i.1 i.4) ∙ c.if-is-asked.true),
+            (sym (c.is_asked.ensures i.1 i.4) ∙ c.if-is_asked.true),
         i.4,
       );
-      law = read_law c.args.job.now c.type-inv.job;
+      law = read_law c.args.job.now c.type_inv.job;
     }
 
-pub returns-else-is-asked : goal.returns-else-is-asked
-returns-else-is-asked c =
+pub returns-else-is_asked : goal.returns-else-is_asked
+returns-else-is_asked c =
     let i = c.loop-rest.invariant in
     let none : length c.loop-rest.rest.now ≡ 0 = search rules in
     record {
-      is = read_job_walk c.args.job.now c.if-job-gt-LONGEST-JOB.false ∙ i.5
+      is = read_job_walk c.args.job.now c.if-job-gt-LONGEST_JOB.false ∙ i.5
           ∙ read_ended i.0 (length c.args.job.now) i.1 c.loop-rest.rest.now none
           ∙ ap (λ (b : Bool). cond b (Ok i.1) (Err (Flawed OutOfTurn (length c.args.job.now))))
-          (sym (c.is_asked.ensures i.1 i.4) ∙ c.if-is-asked.false);
-      law = read_law c.args.job.now c.type-inv.job;
+          (sym (c.is_asked.ensures i.1 i.4) ∙ c.if-is_asked.false);
+      law = read_law c.args.job.now c.type_inv.job;
     }

@@ -5,7 +5,7 @@ use Rattle.reader.specs.declared.record.Term.{Term}
 use Rattle.reader.specs.Records.{kinds, term_of, voxel}
 use Rattle.reader.proofs.Bodies.{Shorter, split_short, split_taken}
 use Rattle.reader.proofs.split.next_record.Goals as goal
-use Rattle.reader.proofs.split.next_record.Goals.{then-job-lt2, else-job-lt2+then-job-lt3+in-default·, else-job-lt2+else-job-lt3+then-job-lt4+in-default·, else-job-lt2+else-job-lt3+else-job-lt4+then-job-lt5+in-default·, else-job-lt2+else-job-lt3+else-job-lt4+else-job-lt5+in-default·}
+use Rattle.reader.proofs.split.next_record.Goals.{then-job-lt2, else-job-lt2+then-job-lt3+in_default-1, else-job-lt2+else-job-lt3+then-job-lt4+in_default-1, else-job-lt2+else-job-lt3+else-job-lt4+then-job-lt5+in_default-1, else-job-lt2+else-job-lt3+else-job-lt4+else-job-lt5+in_default-1}
 
 pub returns-in-len1-up : goal.returns-in-len1-up
 returns-in-len1-up c =
@@ -13,12 +13,12 @@ returns-in-len1-up c =
     let some : 1 ≤ length xs = search rules in
     let short : Shorter kinds (get_or xs 0 0) (length xs) = elim c.in-len1-up-1.branch [
       | then-job-lt2 w ↦ (let less : length xs < 2 = search rules in (λ e. omega arith, (λ e. omega arith, (λ e. omega arith, (λ e. omega arith, (λ e. omega arith, (λ e. omega arith, (λ e. omega arith, (λ e. omega arith, (λ e. omega arith, (λ e. omega arith, tt)))))))))))
-      | else-job-lt2+then-job-lt3+in-default· w ↦ (let less : length xs < 3 = search rules in (λ e. omega arith, (λ e. omega arith, (λ e. omega arith, (λ e. omega arith, (λ e. omega arith, (λ e. omega arith, (λ e. omega arith, (λ e. omega arith, (λ e. omega arith, (λ e. omega arith, tt)))))))))))
-      | else-job-lt2+else-job-lt3+then-job-lt4+in-default· w ↦ (let less : length xs < 4 = search rules in (λ e. omega arith, (λ e. omega arith, (λ e. omega arith, (λ e. omega arith, (λ e. omega arith, (λ e. omega arith, (λ e. omega arith, (λ e. omega arith, (λ e. omega arith, (λ e. omega arith, tt)))))))))))
-      | else-job-lt2+else-job-lt3+else-job-lt4+then-job-lt5+in-default· w ↦ (let less : length xs < 5 = search rules in (λ e. search rules, (λ e. search rules, (λ e. search rules, (λ e. search rules, (λ e. search rules, (λ e. search rules, (λ e. search rules, (λ e. search rules, (λ e. search rules, (λ e. search rules, tt)))))))))))
-      | else-job-lt2+else-job-lt3+else-job-lt4+else-job-lt5+in-default· w ↦ (λ e. search rules, (λ e. search rules, (λ e. search rules, (λ e. search rules, (λ e. search rules, (λ e. search rules, (λ e. search rules, (λ e. search rules, (λ e. search rules, (λ e. search rules, tt))))))))))
+      | else-job-lt2+then-job-lt3+in_default-1 w ↦ (let less : length xs < 3 = search rules in (λ e. omega arith, (λ e. omega arith, (λ e. omega arith, (λ e. omega arith, (λ e. omega arith, (λ e. omega arith, (λ e. omega arith, (λ e. omega arith, (λ e. omega arith, (λ e. omega arith, tt)))))))))))
+      | else-job-lt2+else-job-lt3+then-job-lt4+in_default-1 w ↦ (let less : length xs < 4 = search rules in (λ e. omega arith, (λ e. omega arith, (λ e. omega arith, (λ e. omega arith, (λ e. omega arith, (λ e. omega arith, (λ e. omega arith, (λ e. omega arith, (λ e. omega arith, (λ e. omega arith, tt)))))))))))
+      | else-job-lt2+else-job-lt3+else-job-lt4+then-job-lt5+in_default-1 w ↦ (let less : length xs < 5 = search rules in (λ e. search rules, (λ e. search rules, (λ e. search rules, (λ e. search rules, (λ e. search rules, (λ e. search rules, (λ e. search rules, (λ e. search rules, (λ e. search rules, (λ e. search rules, tt)))))))))))
+      | else-job-lt2+else-job-lt3+else-job-lt4+else-job-lt5+in_default-1 w ↦ (λ e. search rules, (λ e. search rules, (λ e. search rules, (λ e. search rules, (λ e. search rules, (λ e. search rules, (λ e. search rules, (λ e. search rules, (λ e. search rules, (λ e. search rules, tt))))))))))
     ] in
-    split_short xs some short ∙ ap Err (sym c.flaw-of.ensures)
+    split_short xs some short ∙ ap Err (sym c.flaw_of.ensures)
 
 pub returns-in-70 : goal.returns-in-70
 returns-in-70 c =

@@ -5,8 +5,8 @@ use Rattle.complex.specs.Leaf.{of_degree}
 use Rattle.complex.proofs.leaf.Places.{place}
 use Rattle.complex.proofs.leaf.Leaf.cell.Goals as goal
 
-pub offset-bounds-self-d : goal.offset-bounds-self-d
-offset-bounds-self-d g c =
+pub offset_bounds-self-d : goal.offset_bounds-self-d
+offset_bounds-self-d g c =
     let k = g.I.K.Cell.kind in let s = c.args.self.now in let cs = g.I.Index.cells s.index in
     let p = place k g.met.I.K.Cell.cell cs s.starts c.requires c.args.d c.args.i (omega arith) in
     search rules
@@ -17,8 +17,8 @@ bounds-self-d g c =
     let p = place k g.met.I.K.Cell.cell cs s.starts c.requires c.args.d c.args.i (omega arith) in
     search rules
 
-pub overflow-add-self : goal.overflow-add-self
-overflow-add-self g c =
+pub overflow_add-self : goal.overflow_add-self
+overflow_add-self g c =
     let k = g.I.K.Cell.kind in let s = c.args.self.now in let cs = g.I.Index.cells s.index in
     let p = place k g.met.I.K.Cell.cell cs s.starts c.requires c.args.d c.args.i (omega arith) in
     search rules

@@ -11,10 +11,10 @@ returns g c =
     let kind = g.K.Cell.kind in
     let same : (cs : List g.row.K.Denot) → Holds c.args.list.now cs → c.cells.result.now ≡ cs = λ cs h.
     c.cells.ensures.whole cs h
-    (few_unless_overfull c.args.list.now cs h (sym c.is-overfull.ensures ∙ c.if-is-overfull.false)) in
+    (few_unless_overfull c.args.list.now cs h (sym c.is_overfull.ensures ∙ c.if-is_overfull.false)) in
     record {
-      is = λ cs h. c.check-list.ensures.is ∙ ap (list_test kind) (same cs h);
-      closed = λ cs h. subst (λ xs. Verdict kind xs c.check-list.result) (same cs h) c.check-list.ensures.closed;
-      kept = made_closed kind c.cells.result.now (kept c.args.list.now) c.check-list.result
-          c.cells.ensures.kept c.check-list.ensures.closed;
+      is = λ cs h. c.check_list.ensures.is ∙ ap (list_test kind) (same cs h);
+      closed = λ cs h. subst (λ xs. Verdict kind xs c.check_list.result) (same cs h) c.check_list.ensures.closed;
+      kept = made_closed kind c.cells.result.now (kept c.args.list.now) c.check_list.result
+          c.cells.ensures.kept c.check_list.ensures.closed;
     }
