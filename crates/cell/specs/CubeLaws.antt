@@ -1,7 +1,7 @@
 -- Cubes are a kind of cells, and they ascend by degree, then z, then y, then x.
 --
 -- The faces of the faces are those of a cube with one odd coordinate less, so all is by cases on the three parities.
-use Rattle.std.specs.Prelude.{◌≡◌, ℕ, ◌+◌, ◌-◌, ◌%◌, ◌<◌, ◌≤◌, Bool, true, false, List, [], ◌∷◌, refl}
+use Rattle.std.specs.Prelude.{◌≡◌, ℕ, ◌+◌, ◌-◌, ◌%◌, ◌<◌, Bool, true, false, List, [], ◌∷◌, refl}
 use Rattle.std.proofs.Common.{arith}
 use Rattle.std.proofs.lemmas.Bool.Decides.{nat_tests}
 use Rattle.cell.specs.declared.Sign.TheVariants.{Plus, Minus}

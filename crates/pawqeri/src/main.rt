@@ -1,9 +1,9 @@
 // Reads a job on standard input, and prints its report or one line that refuses it.
 #![tactic(auto)]
 
-use anyhow::anyhow;
 use refusal::Fault;
 use std::io::{Read, Write};
+use std::process::ExitCode;
 
 // One byte more than the longest job: enough to tell that a job is too long.
 const READ_AT_MOST: u64 = 16385;
@@ -11,7 +11,7 @@ const READ_AT_MOST: u64 = 16385;
 // The size of the table buffer and of the report buffer.
 const BUFFER: usize = 65536;
 
-fn main(rt: HostRuntime) -> anyhow::Result<()> {
+fn main(rt: HostRuntime) -> anyhow::Result<ExitCode> {
     let heap = rt.alloc();
     let mut input = Vec::new(heap);
     rt.stdin().take(READ_AT_MOST).read_to_end(&mut input)?;
@@ -25,11 +25,11 @@ fn main(rt: HostRuntime) -> anyhow::Result<()> {
         Ok(length) => {
             report.truncate(length);
             rt.stdout().write_all(report.as_slice())?;
-            Ok(())
+            Ok(ExitCode::SUCCESS)
         }
         Err(fault) => {
             println!(rt; "{}", fault.refusal())?;
-            Err(anyhow!("refused"))
+            Ok(ExitCode::FAILURE)
         }
     }
 }

@@ -1,4 +1,4 @@
-use Rattle.std.proofs.Common.{◌≡◌, ◌+◌, [], ◌∷◌, set, sym, refl, ◌∙◌, subst, arith}
+use Rattle.std.proofs.Common.{◌≡◌, ◌+◌, [], ◌∷◌, set, sym, ◌∙◌, subst, arith}
 use Rattle.std.proofs.lemmas.List.{set_past}
 use Rattle.report.specs.Buffers.{Puts}
 use Rattle.report.proofs.Overlays.{puts_byte}

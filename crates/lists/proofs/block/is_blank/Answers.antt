@@ -1,4 +1,4 @@
-use Rattle.std.proofs.Common.{false, length, refl, inl, inr, ⊎_elim, arith}
+use Rattle.std.proofs.Common.{false, length, refl, ⊎_elim, arith}
 use Rattle.std.proofs.lemmas.List.{get_or_past}
 use Rattle.std.proofs.lemmas.Bool.{cases_lt}
 use Rattle.lists.proofs.block.is_blank.Goals as goal

@@ -1,5 +1,4 @@
 use Rattle.std.proofs.Common.{◌≡◌, List, sym, ap, ◌∙◌, subst}
-use Rattle.index.specs.Closed.{Closed}
 use Rattle.index.specs.Test.{list_test}
 use Rattle.index.specs.Verdict.{Verdict}
 use Rattle.lists.specs.Working.{Holds, kept}
