@@ -28,9 +28,15 @@ pub const Y: u8 = 0x59;
 // What stands in a buffer before a call.
 pub const BEFORE: u8 = 0xAA;
 
-pub(crate) fn check_filled(rt: &impl Abort, bytes: &[u8], byte: u8) -> Result<(), Fail> {
+// Each byte is as said; the input is that of the job, for the message.
+pub(crate) fn check_filled(
+    rt: &impl Abort,
+    bytes: &[u8],
+    byte: u8,
+    input: &[u8],
+) -> Result<(), Fail> {
     for b in bytes {
-        assert_eq!(rt; *b, byte);
+        assert_eq!(rt; *b, byte, "of {input:?}");
     }
     Ok(())
 }
@@ -43,9 +49,9 @@ pub(crate) fn check_report(rt: &impl Abort, input: &[u8], text: &[u8]) -> Result
         Ok(length) => assert_eq!(rt; length, text.len()),
         Err(fault) => return Err(Fail::new(fault.refusal())),
     }
-    check_filled(rt, &table, 0)?;
+    check_filled(rt, &table, 0, input)?;
     match report.strip_prefix(text) {
-        Some(rest) => check_filled(rt, rest, BEFORE),
+        Some(rest) => check_filled(rt, rest, BEFORE, input),
         None => Err(Fail::new("another report")),
     }
 }
@@ -58,8 +64,8 @@ fn check_refused(rt: &impl Abort, input: &[u8], want: Refusal) -> Result<(), Fai
         Ok(_) => return Err(Fail::new(format_args!("a report and not: {want}, of {input:?}"))),
         Err(fault) => assert_eq!(rt; fault.refusal(), want, "of {input:?}"),
     }
-    check_filled(rt, &table, 0)?;
-    check_filled(rt, &report, BEFORE)
+    check_filled(rt, &table, 0, input)?;
+    check_filled(rt, &report, BEFORE, input)
 }
 
 pub(crate) fn check_refused_by_job(

@@ -242,7 +242,7 @@ fn check_answer(rt: &impl Abort, room: &mut [u8]) -> Result<(), Fail> {
             );
         }
     }
-    check_filled(rt, &table, 0)?;
+    check_filled(rt, &table, 0, &RING)?;
     assert!(rt; RING_REPORT.starts_with(room));
     Ok(())
 }

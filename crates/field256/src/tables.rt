@@ -1,5 +1,4 @@
-// The powers of t in the field of 256 and their exponents. The rows stand as they are: rt fmt would give
-// each entry a line of its own.
+// The powers of t in the field of 256 and their exponents.
 ghost use Rattle.std.specs.Prelude.{◌≡◌, ◌<◌};
 ghost use Rattle.field256.specs.Tables.{power};
 
