@@ -16,11 +16,25 @@ pub enum Layer {
     Job,
 }
 
+// What is printed of a fault. A layer refuses by an enum of its own; here, of an enum only the number would be printed.
 #[derive(Clone, Copy, PartialEq, Eq, Debug)]
 pub struct Refusal {
     pub number: u8,
     pub layer: Layer,
     pub place: usize,
+}
+
+impl Layer {
+    // The refusal by this layer.
+    pub fn refuses(self, number: u8, place: usize) -> Refusal
+        ensures { result ≡ record { number = number; layer = self; place = place } }
+    {
+        Refusal {
+            number,
+            layer: self,
+            place,
+        }
+    }
 }
 
 impl fmt::Display for Layer {
