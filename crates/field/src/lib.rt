@@ -1,7 +1,7 @@
 // Finite fields of one-byte codes: what a field is, and the prime fields.
 #![tactic(auto)]
 
-ghost use Rattle.std.specs.Prelude.{◌≡◌, ℕ, refl};
+ghost use Rattle.std.specs.Prelude.{◌≡◌, refl};
 ghost use Rattle.field.specs.Codes.{Codes, IsField};
 ghost use Rattle.field.specs.Residues.{residues, IsPrime};
 ghost use Rattle.field.specs.PrimeResidues.{residues_field};
@@ -32,50 +32,45 @@ pub trait Field {
     ghost field: { IsField codes };
 }
 
-// A prime number, carried by a type.
-pub trait Modulus {
-    ghost modulus: { ℕ };
-
-    fn value() -> u8
-        ensures { result ≡ modulus };
-
-    ghost prime: { IsPrime modulus };
-}
-
-// The field of the residues by a prime. Fields by different primes are different types.
+// The field of the residues by Q. Fields by different numbers are different types.
 #[derive(Clone, Copy)]
-pub struct Prime<M> {
-    pub marker: M,
+pub struct Prime<const Q: u8>;
+
+// That Q is prime, which a const parameter by itself does not say.
+pub trait Modulus<const Q: u8> {
+    ghost prime: { IsPrime Q };
 }
 
-impl<M: Modulus> Field for Prime<M> {
-    ghost codes = { residues M.Modulus.modulus };
+impl<const Q: u8> Field for Prime<Q>
+where
+    Prime<Q>: Modulus<Q>,
+{
+    ghost codes = { residues Q };
 
-    ghost field = { residues_field M.Modulus.modulus M.Modulus.prime };
+    ghost field = { residues_field Q ⟦<Prime<Q> as Modulus<Q>>⟧.prime };
 
     fn order(&self) -> u16 {
-        M::value() as u16
+        Q as u16
     }
 
     fn add(&self, a: u8, b: u8) -> u8 {
-        let q = M::value() as u16;
+        let q = Q as u16;
         ((a as u16 + b as u16) % q) as u8
     }
 
     fn negate(&self, a: u8) -> u8 {
-        let q = M::value();
-        (q - a % q) % q
+        (Q - a % Q) % Q
     }
 
     fn multiply(&self, a: u8, b: u8) -> u8 {
-        let q = M::value() as u16;
+        let q = Q as u16;
         (a as u16 * b as u16 % q) as u8
     }
 
     // Keeps factor * a = rest modulo q. The remainder of q by the rest is smaller than the rest, and it is
     // not 0, since the rest does not divide the prime q.
     fn invert(&self, a: u8) -> Option<u8> {
-        let q = M::value() as u16;
+        let q = Q as u16;
         let mut rest = a as u16 % q;
         let mut factor: u16 = 1;
         while rest > 1 {
@@ -86,67 +81,22 @@ impl<M: Modulus> Field for Prime<M> {
     }
 }
 
-#[derive(Clone, Copy)]
-pub struct Two;
-
-impl Modulus for Two {
-    ghost modulus = { 2 };
-
+impl Modulus<2> for Prime<2> {
     ghost prime = { prime_by_test 2 (lit≤ tt) (lit≤ tt) refl };
-
-    fn value() -> u8 {
-        2
-    }
 }
 
-#[derive(Clone, Copy)]
-pub struct Three;
-
-impl Modulus for Three {
-    ghost modulus = { 3 };
-
+impl Modulus<3> for Prime<3> {
     ghost prime = { prime_by_test 3 (lit≤ tt) (lit≤ tt) refl };
-
-    fn value() -> u8 {
-        3
-    }
 }
 
-#[derive(Clone, Copy)]
-pub struct Five;
-
-impl Modulus for Five {
-    ghost modulus = { 5 };
-
+impl Modulus<5> for Prime<5> {
     ghost prime = { prime_by_test 5 (lit≤ tt) (lit≤ tt) refl };
-
-    fn value() -> u8 {
-        5
-    }
 }
 
-#[derive(Clone, Copy)]
-pub struct Seven;
-
-impl Modulus for Seven {
-    ghost modulus = { 7 };
-
+impl Modulus<7> for Prime<7> {
     ghost prime = { prime_by_test 7 (lit≤ tt) (lit≤ tt) refl };
-
-    fn value() -> u8 {
-        7
-    }
 }
 
-#[derive(Clone, Copy)]
-pub struct TwoFiftyOne;
-
-impl Modulus for TwoFiftyOne {
-    ghost modulus = { 251 };
-
+impl Modulus<251> for Prime<251> {
     ghost prime = { prime_by_test 251 (lit≤ tt) (lit≤ tt) refl };
-
-    fn value() -> u8 {
-        251
-    }
 }

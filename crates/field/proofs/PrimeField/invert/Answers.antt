@@ -1,23 +1,17 @@
 -- Each turn keeps what is said of the factor and the rest; at the end the rest is 1, or 0 where `a` is.
-use Rattle.std.proofs.Common.{◌≡◌, sym, ap, ◌∙◌, subst, arith}
-use Rattle.field.specs.Residues.{residues, IsPrime}
+use Rattle.std.proofs.Common.{◌≡◌, sym, ◌∙◌, arith}
 use Rattle.field.specs.PrimeResidues.{inversion_more, inverse_found, inverse_absent}
 use Rattle.field.proofs.PrimeField.invert.Goals as goal
 
 pub loop-rest-preserved : goal.loop-rest-preserved
 loop-rest-preserved g c =
-    inversion_more c.value-q.result c.args.a c.loop-rest.rest c.loop-rest.factor
-    (subst IsPrime (sym c.value-q.ensures) g.met.M.Modulus.prime) c.loop-rest-test.true
+    inversion_more g.row.Q c.args.a c.loop-rest.rest c.loop-rest.factor g.bound-1.prime c.loop-rest-test.true
     c.loop-rest.invariant.1 c.loop-rest.invariant.2
 
 pub returns-then-rest-eq0 : goal.returns-then-rest-eq0
-returns-then-rest-eq0 g c =
-    sym (inverse_absent c.value-q.result c.args.a (c.loop-rest.invariant.3 c.if-rest-eq0.true))
-    ∙ ap (λ q. (residues q).inverse c.args.a) c.value-q.ensures
+returns-then-rest-eq0 g c = sym (inverse_absent g.row.Q c.args.a (c.loop-rest.invariant.3 c.if-rest-eq0.true))
 
 pub returns-else-rest-eq0 : goal.returns-else-rest-eq0
 returns-else-rest-eq0 g c =
     let one : c.loop-rest.rest ≡ 1 = omega arith in
-    sym (inverse_found c.value-q.result c.args.a c.loop-rest.factor c.loop-rest.invariant.0
-    (c.loop-rest.invariant.2 ∙ one))
-    ∙ ap (λ q. (residues q).inverse c.args.a) c.value-q.ensures
+    sym (inverse_found g.row.Q c.args.a c.loop-rest.factor c.loop-rest.invariant.0 (c.loop-rest.invariant.2 ∙ one))

@@ -4,7 +4,7 @@ use Rattle.field.proofs.PrimeField.invert.Given as goal
 
 abbrev pub invariant-loop-rest : goal.invariant-loop-rest
 invariant-loop-rest g l =
-    (l.factor < l.q) × (l.rest < l.q) × ((l.factor * l.a) % l.q ≡ l.rest) × (l.rest ≡ 0 → l.a % l.q ≡ 0)
+    (l.factor < g.row.Q) × (l.rest < g.row.Q) × ((l.factor * l.a) % g.row.Q ≡ l.rest) × (l.rest ≡ 0 → l.a % g.row.Q ≡ 0)
 
 abbrev pub decreases-loop-rest : goal.decreases-loop-rest
 decreases-loop-rest g l = l.rest
