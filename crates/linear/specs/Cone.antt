@@ -1,7 +1,8 @@
 -- The mapping cone of a chain map.
 --
--- In degree k stand the source's cells of degree k - 1 first, then the target's of degree k. The boundary of (b, c) is
--- (- B b, B c - M b). In degree 0 there are only the target's cells.
+-- Each cell of the source moves up by one degree; in its new degree it is numbered before the target's cells. A moved
+-- cell's boundary is its own one with the other sign, less its image under the map; a cell of the target keeps its
+-- boundary. Nothing moves into degree 0, so it has the target's cells only.
 use Rattle.std.specs.Prelude.{ℕ, zero, suc, ◌+◌, ◌-◌, max, cond, nat_lt}
 use Rattle.field.specs.Codes.{Codes}
 use Rattle.linear.specs.Complexes.{Meaning}

@@ -1,7 +1,8 @@
 -- What makes a complex the mapping cone of a chain map, part by part.
 --
--- The matrix from degree k + 1 to degree k has the source's columns of degree k, then the target's of degree k + 1.
--- Its rows are the source's of degree k - 1, then the target's of degree k. For k = 0 the source has no rows.
+-- Each matrix has two groups of columns and two of rows, those of the source before those of the target. A row or
+-- column of the source belongs to a cell one degree below its place in the cone; so the matrix into degree 0 has no row
+-- of the source.
 use Rattle.std.specs.Prelude.{◌≡◌, ℕ, suc, ◌+◌, ◌<◌, max}
 use Rattle.field.specs.Codes.{Codes}
 use Rattle.linear.specs.Complexes.{Meaning}

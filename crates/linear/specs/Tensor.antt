@@ -1,15 +1,16 @@
 -- The tensor of two complexes over one field.
 --
--- A cell of degree k is a pair: cell i of C in degree p with cell j of D in degree k - p. The cells of a degree are
--- numbered by p, then by i, then by j. The boundary of (p, i, j) has C's entry at each (p - 1, i', j), and D's entry
--- with the sign (-1)^p at each (p, i, j'). If one complex has no cells, there is no pair; in degree 0 there is no
--- boundary.
+-- Its cells are the pairs of a cell of each, and the degrees of the two add up. The pairs of one degree are put in
+-- order by the degree of their left cell; where that is the same, by the left cell, and then by the right one. A pair's
+-- boundary takes the faces of one cell beside the other cell: those of the left cell as they are, those of the right
+-- cell with a minus if the left cell's degree is odd. If one complex has no cells, there is no pair; in degree 0 there
+-- is no boundary.
 use Rattle.std.specs.Prelude.{ℕ, zero, suc, ◌+◌, ◌-◌, ◌*◌, ◌/◌, ◌%◌, cond, Some, None, Option, ◌==◌, nat_lt}
 use Rattle.field.specs.Codes.{Codes}
 use Rattle.linear.specs.Complexes.{Meaning}
 use Rattle.linear.specs.Sums.{total}
 
--- a pair of cells: cell i of C in degree p, with cell j of D
+-- a pair by the degree p and the number i of its left cell, and the number j of its right cell
 pub record Pair : Type 0 where
   pub p : ℕ
   pub i : ℕ

@@ -1,13 +1,12 @@
 -- Cancelling a pair of live cells: b of degree k - 1 against a of degree k, at an entry of D k that has an inverse v.
 --
--- All values on the right are those before the cancel:
---   D k loses column a times v times row b, which leaves 0 in row b and in column a; row a of D (k + 1) and column b
---   of D (k - 1) become 0;
---   F (k - 1): row i loses D k [i, a] times v times row b; row b becomes 0, and so does row a of F k;
---   G k: column j loses v times D k [b, j] times column a; column a becomes 0, and so does column b of G (k - 1);
---   H (k - 1) gains column a of G k times v times row b of F (k - 1);
---   b and a are no longer live.
--- In degree 0 there is no pair, since D is 0 there.
+-- Each matrix is made from those before the cancel, by one product: a column, the inverse v, a row.
+--   D k takes off its column a, v and its row b, so that nothing is left in that row and column. What leads into a and
+--   out of b goes as well: row a in the degree above, column b in the degree below.
+--   F (k - 1) takes off column a of D k, v and its own row b, which becomes 0; in F k, that of the pair's other cell does.
+--   G k takes off its own column a, v and row b of D k; that column becomes 0, and column b in the degree below.
+--   H (k - 1) adds column a of G k, v and row b of F (k - 1).
+-- Both cells are then dead. In degree 0 there is no pair, since D is 0 there.
 use Rattle.std.specs.Prelude.{◌≡◌, ℕ, suc, ◌<◌, Bool, false, cond, ◌&&◌, ◌||◌, ◌⊎◌, Some, ◌==◌}
 use Rattle.field.specs.Codes.{Codes}
 use Rattle.linear.specs.Complexes.{Meaning}

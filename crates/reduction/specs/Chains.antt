@@ -30,13 +30,13 @@ pub record Bounds (f : Codes) (m : Meaning) (k : ℕ) (w z : Chain) : Type 0 whe
 abbrev pub IsBoundary : Codes → Meaning → ℕ → Chain → Type 0
 IsBoundary f m k z = (w : Chain) × Bounds f m k w z
 
--- n cycles of degree k of which no combination but the zero one is a boundary
+-- n cycles of degree k that are independent up to boundaries: if codes times the cycles add up to a boundary, the codes
+-- are all 0
 pub record AreIndependent (f : Codes) (m : Meaning) (k n : ℕ) (z : ℕ → Chain) : Type 0 where
   pub cycles : (s : ℕ) → s < n → IsCycle f m k (z s)
   pub free : (c : ℕ → ℕ) → AreCodes f n c → IsBoundary f m k (combination f n c z) → (s : ℕ) → s < n → c s ≡ 0
 
--- the Betti number of degree k: the largest number of cycles of which no combination but the zero one is a
--- boundary
+-- the Betti number of degree k: so many cycles are independent up to boundaries, and no more are
 pub record IsBetti (f : Codes) (m : Meaning) (k b : ℕ) : Type 0 where
   pub reached : (z : ℕ → Chain) × AreIndependent f m k b z
   pub largest : (n : ℕ) (z : ℕ → Chain) → AreIndependent f m k n z → n ≤ b
