@@ -49,7 +49,7 @@ module _ {K : Type 0} (k : Kind K) where
 -- the laws of a kind of cells
 pub record IsKind {K : Type 0} (k : Kind K) : Type 0 where
   pub degree_small : (c : K) → k.valid c ≡ true → k.degree c ≤ 3
-  -- the order by rank is strict and total, lower degrees first
+  -- ranks tell cells apart, and a lower degree has lower ranks
   pub apart : (c d : K) → k.valid c ≡ true → k.valid d ≡ true → k.rank c ≡ k.rank d → c ≡ d
   pub lower_first :
       (c d : K) → k.valid c ≡ true → k.valid d ≡ true → k.degree c < k.degree d → k.rank c < k.rank d

@@ -1,11 +1,12 @@
 -- Simplices: the cells with up to four vertices, numbers from 0 to 63 that ascend.
 use Rattle.std.specs.Prelude.{ℕ, Bool, ◌&&◌, List, [], ◌∷◌, nat_lt}
+use Rattle.cell.specs.declared.Sign.{Sign}
 use Rattle.cell.specs.declared.Sign.TheVariants.{Plus, Minus}
 use Rattle.cell.specs.declared.Face.{Face}
 use Rattle.cell.specs.declared.simplex.Simplex.{Simplex}
 use Rattle.cell.specs.declared.simplex.Simplex.TheVariants.{Vertex, Edge, Triangle, Tetrahedron}
 use Rattle.cell.specs.Digits.{numeral}
-use Rattle.cell.specs.Kind.{Kind}
+use Rattle.cell.specs.Kind.{Kind, product}
 
 abbrev pub vertices : Simplex → List ℕ
 vertices (Vertex a) = a ∷ []
@@ -31,20 +32,18 @@ simplex_degree (Tetrahedron a b c d) = 3
 abbrev pub simplex_rank : Simplex → ℕ
 simplex_rank s = numeral 64 (simplex_degree s) (vertices s)
 
-abbrev pub with_plus : Simplex → Face Simplex
-with_plus s = record { cell = s; sign = Plus }
-
-abbrev pub with_minus : Simplex → Face Simplex
-with_minus s = record { cell = s; sign = Minus }
+-- the signs alternate, from s on
+abbrev pub alternate : Sign → List Simplex → List (Face Simplex)
+alternate s [] = []
+alternate s (c ∷ cs) = record { cell = c; sign = s } ∷ alternate (product Minus s) cs
 
 -- each face drops one vertex, the first vertex first; the signs alternate from plus
 abbrev pub simplex_faces : Simplex → List (Face Simplex)
 simplex_faces (Vertex a) = []
-simplex_faces (Edge a b) = with_plus (Vertex b) ∷ with_minus (Vertex a) ∷ []
-simplex_faces (Triangle a b c) = with_plus (Edge b c) ∷ with_minus (Edge a c) ∷ with_plus (Edge a b) ∷ []
+simplex_faces (Edge a b) = alternate Plus (Vertex b ∷ Vertex a ∷ [])
+simplex_faces (Triangle a b c) = alternate Plus (Edge b c ∷ Edge a c ∷ Edge a b ∷ [])
 simplex_faces (Tetrahedron a b c d) =
-    with_plus (Triangle b c d) ∷ with_minus (Triangle a c d) ∷ with_plus (Triangle a b d)
-    ∷ with_minus (Triangle a b c) ∷ []
+    alternate Plus (Triangle b c d ∷ Triangle a c d ∷ Triangle a b d ∷ Triangle a b c ∷ [])
 
 abbrev pub simplices : Kind Simplex
 simplices =

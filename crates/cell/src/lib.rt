@@ -36,7 +36,8 @@ pub trait Cell: Copy {
     fn degree(&self) -> usize
         ensures { result ≡ kind.degree self.now };
 
-    // The place in the order of all cells of the kind.
+    // The place in the order of all cells of the kind, and the key by which cells are compared. There is no Ord
+    // beside it: values whose numbers make no cell are compared too, and two of them may have one rank.
     fn rank(&self) -> u64
         ensures { result ≡ kind.rank self.now };
 

@@ -1,7 +1,7 @@
 // Simplices: the cells with up to four vertices.
-ghost use Rattle.std.specs.Prelude.{◌≡◌, ◌^◌, ◌<◌, [], ◌∷◌, Some};
+ghost use Rattle.std.specs.Prelude.{◌≡◌, ◌^◌, ◌<◌, [], ◌∷◌};
 ghost use Rattle.cell.specs.Digits.{numeral};
-ghost use Rattle.cell.specs.Simplices.{simplices, with_plus, with_minus};
+ghost use Rattle.cell.specs.Simplices.{simplices};
 ghost use Rattle.cell.specs.Orders.{SimplicesAscend};
 ghost use Rattle.cell.specs.SimplexLaws.{simplices_kind};
 
@@ -60,18 +60,20 @@ impl Cell for Simplex {
     }
 
     fn face(&self, f: usize) -> Option<Face<Simplex>> {
-        match (*self, f) {
-            (Simplex::Edge(_, b), 0) => with_plus(Simplex::Vertex(b)),
-            (Simplex::Edge(a, _), 1) => with_minus(Simplex::Vertex(a)),
-            (Simplex::Triangle(_, b, c), 0) => with_plus(Simplex::Edge(b, c)),
-            (Simplex::Triangle(a, _, c), 1) => with_minus(Simplex::Edge(a, c)),
-            (Simplex::Triangle(a, b, _), 2) => with_plus(Simplex::Edge(a, b)),
-            (Simplex::Tetrahedron(_, b, c, d), 0) => with_plus(Simplex::Triangle(b, c, d)),
-            (Simplex::Tetrahedron(a, _, c, d), 1) => with_minus(Simplex::Triangle(a, c, d)),
-            (Simplex::Tetrahedron(a, b, _, d), 2) => with_plus(Simplex::Triangle(a, b, d)),
-            (Simplex::Tetrahedron(a, b, c, _), 3) => with_minus(Simplex::Triangle(a, b, c)),
-            _ => None,
-        }
+        let cell = match (*self, f) {
+            (Simplex::Edge(_, b), 0) => Simplex::Vertex(b),
+            (Simplex::Edge(a, _), 1) => Simplex::Vertex(a),
+            (Simplex::Triangle(_, b, c), 0) => Simplex::Edge(b, c),
+            (Simplex::Triangle(a, _, c), 1) => Simplex::Edge(a, c),
+            (Simplex::Triangle(a, b, _), 2) => Simplex::Edge(a, b),
+            (Simplex::Tetrahedron(_, b, c, d), 0) => Simplex::Triangle(b, c, d),
+            (Simplex::Tetrahedron(a, _, c, d), 1) => Simplex::Triangle(a, c, d),
+            (Simplex::Tetrahedron(a, b, _, d), 2) => Simplex::Triangle(a, b, d),
+            (Simplex::Tetrahedron(a, b, c, _), 3) => Simplex::Triangle(a, b, c),
+            _ => return None,
+        };
+        let sign = if f % 2 == 0 { Sign::Plus } else { Sign::Minus };
+        Some(Face { cell, sign })
     }
 }
 
@@ -81,20 +83,6 @@ fn add_digit(n: u64, digit: u8) -> u64
     ensures { result ≡ numeral 64 n (digit ∷ []) }
 {
     n * 64 + digit as u64
-}
-
-fn with_plus(cell: Simplex) -> Option<Face<Simplex>>
-    ensures { result ≡ Some (with_plus cell) }
-{
-    let sign = Sign::Plus;
-    Some(Face { cell, sign })
-}
-
-fn with_minus(cell: Simplex) -> Option<Face<Simplex>>
-    ensures { result ≡ Some (with_minus cell) }
-{
-    let sign = Sign::Minus;
-    Some(Face { cell, sign })
 }
 
 // The order of simplices by rank.
