@@ -13,14 +13,14 @@ all_last P (b ∷ cs) c h = all_last P cs c h.1
 
 module _ {K : Type 0} (k : Kind K) where
   -- a cell of an ascending list stands above each cell before it
-  pub rank_getD_lt :
+  pub rank_get_or_lt :
       (cs : List K) (i j : ℕ) (d : K) → Ascending k cs → i < j → j < length cs →
       k.rank (get_or cs i d) < k.rank (get_or cs j d)
-  rank_getD_lt [] i j d asc l w = absurd (omega arith)
-  rank_getD_lt (c ∷ cs) i zero d asc l w = absurd (omega arith)
-  rank_getD_lt (c ∷ cs) zero (suc j) d asc l w =
+  rank_get_or_lt [] i j d asc l w = absurd (omega arith)
+  rank_get_or_lt (c ∷ cs) i zero d asc l w = absurd (omega arith)
+  rank_get_or_lt (c ∷ cs) zero (suc j) d asc l w =
       All-get_or (λ e. k.rank c < k.rank e) cs j d (omega arith) asc.0
-  rank_getD_lt (c ∷ cs) (suc i) (suc j) d asc l w = rank_getD_lt cs i j d asc.1 (omega arith) (omega arith)
+  rank_get_or_lt (c ∷ cs) (suc i) (suc j) d asc l w = rank_get_or_lt cs i j d asc.1 (omega arith) (omega arith)
 
   -- an ascending list goes on with a cell above its last one
   pub ascending_push : (cs : List K) (c : K) → Ascending k cs → above_last k cs c ≡ true → Ascending k (cs ++ c ∷ [])

@@ -10,11 +10,11 @@ use Rattle.index.specs.Test.{all_held}
 
 module _ {K : Type 0} (k : Kind K) where
   -- a cell of the rank r stands in the list where one is read
-  pub held_getD : (cs : List K) (i : ℕ) (d : K) (r : ℕ) → i < length cs → k.rank (get_or cs i d) ≡ r → held k r cs ≡ true
-  held_getD [] i d r w e = absurd (omega arith)
-  held_getD (c ∷ cs) zero d r w e = cond-true (eqb (k.rank c) r) true (held k r cs) (eq-eqb (k.rank c) r e)
-  held_getD (c ∷ cs) (suc i) d r w e =
-      let rest = held_getD cs i d r (omega arith) e in
+  pub held_get_or : (cs : List K) (i : ℕ) (d : K) (r : ℕ) → i < length cs → k.rank (get_or cs i d) ≡ r → held k r cs ≡ true
+  held_get_or [] i d r w e = absurd (omega arith)
+  held_get_or (c ∷ cs) zero d r w e = cond-true (eqb (k.rank c) r) true (held k r cs) (eq-eqb (k.rank c) r e)
+  held_get_or (c ∷ cs) (suc i) d r w e =
+      let rest = held_get_or cs i d r (omega arith) e in
       elim (eqb (k.rank c) r) as (λ b. cond b true (held k r cs) ≡ true) [ true ↦ refl | false ↦ rest ]
 
   -- no cell of the rank r stands in the list where none is read

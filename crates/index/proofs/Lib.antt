@@ -1,6 +1,6 @@
 pub mod Ascents
 pub mod Held
-pub mod Halves
+pub mod Search
 pub mod Fits
 pub mod Closing
 pub mod Telling

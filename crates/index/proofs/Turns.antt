@@ -1,8 +1,8 @@
 -- The turns of the test of a list: one cell more, the cell that does not pass, the end, and the list that is too long.
 use Rattle.std.proofs.Common.{◌≡◌, ℕ, ◌+◌, ◌<◌, ◌≤◌, List, [], ◌∷◌, ◌++◌, length, get_or, take, drop, Some, Ok, Err, Result, sym, refl, ap, ◌∙◌, subst, arith}
-use Rattle.std.proofs.lemmas.List.{at_drop_more, at_drop_all, drop_more, take_more, take_all, take-append-drop, length-take-le}
+use Rattle.std.proofs.lemmas.List.{at_drop_more, drop_more, take_more, take-append-drop, length-take-le}
 use Rattle.std.proofs.lemmas.Option.{slice_get-get_or}
-use Rattle.std.proofs.lemmas.Bool.{cond_above, cond_below}
+use Rattle.std.proofs.lemmas.Bool.{cond_above}
 use Rattle.cell.specs.Kind.{Kind, IsKind}
 use Rattle.index.specs.Closed.{Closed}
 use Rattle.index.specs.Test.{and_then, cell_test, cells_test, list_test}
@@ -26,12 +26,6 @@ pub record Answer {K : Type 0} (k : Kind K) (cs : List K) (r : Result (Unit {0})
 module _ {K : Type 0} (k : Kind K) (law : IsKind k) (cs : List K) where
   pub passed_none : Passed k cs 0
   passed_none = record { closed = record { few = omega arith; valid = tt; ascending = tt; faces = tt }; rest = refl }
-
-  pub answer_too_many : 1024 < length cs → Answer k cs (Err TooMany)
-  answer_too_many w = record {
-    is = cond_below 1024 (length cs) (Err TooMany) (cells_test k [] 0 cs) w;
-    closed = record { accepts = λ h. absurd (omega (arith, h.few)); tells = w };
-  }
 
   module _ (few : length cs ≤ 1024) (n : ℕ) (p : Passed k cs n) where
     list_test_is : (r : Result (Unit {0}) LeafFault) → r ≡ cells_test k [] 0 cs → r ≡ list_test k cs
@@ -77,9 +71,3 @@ module _ {K : Type 0} (k : Kind K) (law : IsKind k) (cs : List K) where
           tells = tells_from_err k cs n c p.closed (slice_get-get_or cs n c w ∙ ap Some (sym read)) e h;
         };
       }
-
-    pub answer_all : length cs ≤ n → Answer k cs (Ok tt)
-    answer_all w = record {
-      is = list_test_is (Ok tt) (sym (at_drop_all (cells_test k (take n cs) n) cs n w) ∙ p.rest);
-      closed = record { accepts = λ _. refl; tells = subst (Closed k) (take_all n cs w) p.closed };
-    }

@@ -3,10 +3,9 @@
 
 ghost use Rattle.std.specs.Prelude.{◌≡◌, List, length};
 ghost use Rattle.std.specs.List.{slice_get};
-ghost use Rattle.refusal.specs.declared.Layer.TheVariants.{Leaf};
 ghost use Rattle.index.specs.Faults.{leaf_refusal};
 ghost use Rattle.index.specs.Find.{Finds};
-ghost use Rattle.index.specs.Parts.{TellsFace, TellsFaces, TellsCell};
+ghost use Rattle.index.specs.Parts.{TellsFaces, TellsCell};
 ghost use Rattle.index.specs.Test.{above_last, list_test};
 ghost use Rattle.index.specs.Verdict.{Verdict};
 
@@ -14,7 +13,7 @@ use cell::Cell;
 use refusal::{Fault, Layer, Refusal};
 
 // The most cells of a list.
-const MOST_CELLS: usize = 1024;
+pub const MOST_CELLS: usize = 1024;
 
 // Why a list of cells is no closed list.
 #[derive(Clone, Copy, Debug)]
@@ -29,22 +28,12 @@ impl Fault for LeafFault {
     ghost says = { leaf_refusal };
 
     fn refusal(&self) -> Refusal {
-        match self {
-            LeafFault::OutOfRange => refused(4, 0),
-            LeafFault::NotAbove(cell) => refused(6, *cell),
-            LeafFault::FaceMissing(cell) => refused(7, *cell),
-            LeafFault::TooMany => refused(8, MOST_CELLS),
+        match *self {
+            LeafFault::OutOfRange => Layer::Leaf.refuses(4, 0),
+            LeafFault::NotAbove(cell) => Layer::Leaf.refuses(6, cell),
+            LeafFault::FaceMissing(cell) => Layer::Leaf.refuses(7, cell),
+            LeafFault::TooMany => Layer::Leaf.refuses(8, MOST_CELLS),
         }
-    }
-}
-
-fn refused(number: u8, place: usize) -> Refusal
-    ensures { result ≡ record { number = number; layer = Leaf; place = place } }
-{
-    Refusal {
-        number,
-        layer: Layer::Leaf,
-        place,
     }
 }
 
@@ -65,44 +54,21 @@ impl<'a, K: Cell> FaceIndex<'a, K> {
     pub fn find(&self, c: &K) -> Option<usize>
         ensures { Finds K.Cell.kind self.now.cells.now c.now result }
     {
-        let want = c.rank();
-        let mut low = 0;
-        let mut high = self.cells.len();
-        while low < high {
-            let mid = low + (high - low) / 2;
-            let have = self.cells[mid].rank();
-            if have == want {
-                return Some(mid);
-            }
-            if have < want {
-                low = mid + 1;
-            } else {
-                high = mid;
-            }
-        }
-        None
-    }
-
-    // Whether the face of c with the number f stands in the list.
-    fn has_face(&self, c: &K, f: usize) -> bool
-        ensures { TellsFace K.Cell.kind self.now.cells.now c.now f result }
-    {
-        match c.face(f) {
-            Some(face) => match self.find(&face.cell) {
-                Some(_) => true,
-                None => false,
-            },
-            None => true,
-        }
+        self.cells
+            .binary_search_by_key(&c.rank(), |d| d.rank())
+            .ok()
     }
 
     // Whether each face of c stands in the list, if the list ascends.
+    #[tactic(auto, using(crate::proofs::Steps::one_face))]
     pub fn has_faces(&self, c: &K) -> bool
         ensures { TellsFaces K.Cell.kind self.now.cells.now c.now result }
     {
         for f in 0..c.face_count() {
-            if !self.has_face(c, f) {
-                return false;
+            if let Some(face) = c.face(f) {
+                let Some(_) = self.find(&face.cell) else {
+                    return false;
+                };
             }
         }
         true
@@ -110,13 +76,11 @@ impl<'a, K: Cell> FaceIndex<'a, K> {
 }
 
 // Whether c stands above the last of the cells before it.
+#[tactic(auto, using(crate::proofs::Steps::last_cell))]
 fn stands_above<K: Cell>(before: &[K], c: &K) -> bool
     ensures { result ≡ above_last K.Cell.kind before.now c.now }
 {
-    match before.last() {
-        Some(last) => last.rank() < c.rank(),
-        None => true,
-    }
+    before.last().is_none_or(|last| last.rank() < c.rank())
 }
 
 // The cell with the number n, after the cells before it.
@@ -143,8 +107,8 @@ pub fn check_list<K: Cell>(cells: &[K]) -> Result<(), LeafFault>
     if cells.len() > MOST_CELLS {
         return Err(LeafFault::TooMany);
     }
-    for n in 0..cells.len() {
-        check_cell(&cells[..n], &cells[n], n)?;
+    for (n, c) in cells.iter().enumerate() {
+        check_cell(&cells[..n], c, n)?;
     }
     Ok(())
 }
@@ -154,6 +118,9 @@ pub trait Index {
     type K: Cell;
 
     ghost cells: { Self → List Self.K };
+
+    fn as_slice(&self) -> &[Self::K]
+        ensures { result.now ≡ cells self.now };
 
     fn len(&self) -> usize
         ensures { result ≡ length (cells self.now) };
@@ -170,16 +137,16 @@ impl<'a, K: Cell> Index for FaceIndex<'a, K> {
 
     ghost cells = { λ s. s.cells.now };
 
+    fn as_slice(&self) -> &[K] {
+        self.cells
+    }
+
     fn len(&self) -> usize {
         self.cells.len()
     }
 
     fn at(&self, i: usize) -> Option<K> {
-        if i < self.cells.len() {
-            Some(self.cells[i])
-        } else {
-            None
-        }
+        self.cells.get(i).copied()
     }
 
     fn find(&self, c: &K) -> Option<usize> {
