@@ -1,14 +1,12 @@
 // The faults of a layer, and the limits that every complex keeps.
 ghost use Rattle.std.specs.Prelude.{◌≡◌};
-ghost use Rattle.refusal.specs.declared.Layer.TheVariants.{Pile};
 ghost use Rattle.complex.specs.PileFaults.{pile_refusal};
 ghost use Rattle.complex.specs.Limits.{Limited, limits_test};
 
+use index::MOST_CELLS;
 use refusal::{Fault, Layer, Refusal};
 
-// The most cells of a complex, and its highest top.
-const MOST_CELLS: usize = 1024;
-
+// The highest top of a complex.
 const HIGHEST_TOP: usize = 8;
 
 // Why a layer is not made.
@@ -23,21 +21,11 @@ impl Fault for PileFault {
     ghost says = { pile_refusal };
 
     fn refusal(&self) -> Refusal {
-        match self {
-            PileFault::TooMany => refused(8, MOST_CELLS),
-            PileFault::TopTooHigh => refused(8, 0),
-            PileFault::NotIncluded(cell) => refused(16, *cell),
+        match *self {
+            PileFault::TooMany => Layer::Pile.refuses(8, MOST_CELLS),
+            PileFault::TopTooHigh => Layer::Pile.refuses(8, 0),
+            PileFault::NotIncluded(cell) => Layer::Pile.refuses(16, cell),
         }
-    }
-}
-
-fn refused(number: u8, place: usize) -> Refusal
-    ensures { result ≡ record { number = number; layer = Pile; place = place } }
-{
-    Refusal {
-        number,
-        layer: Layer::Pile,
-        place,
     }
 }
 

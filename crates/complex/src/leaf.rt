@@ -3,15 +3,18 @@ ghost use Rattle.std.specs.Prelude.{◌≡◌, length};
 ghost use Rattle.std.specs.List.{slice_get};
 ghost use Rattle.index.specs.Closed.{Closed};
 ghost use Rattle.complex.specs.Leaf.{code, of_degree, incidence, between, leaf};
-ghost use Rattle.complex.specs.LeafSteps.{one_below, sign_at};
 ghost use Rattle.complex.specs.Starts.{below_degree, Starts, Sound};
 
 use crate::Complex;
 use cell::{Cell, Sign};
 use field::Field;
 use index::Index;
+use std::array;
 
 // A list of cells behind an index, with the places at which the degrees start in it.
+//
+// That the places are true is no ghost field: with one, Clone is not derived here, and a written one would ask for an
+// index that can be copied.
 #[derive(Clone, Copy)]
 pub struct Leaf<I, F> {
     index: I,
@@ -28,7 +31,7 @@ impl<I: Index, F: Field> Leaf<I, F> {
         ensures sound { Closed I.K.Cell.kind (I.Index.cells index) →
             Sound I.K.Cell.kind (I.Index.cells result.index) result.starts }
     {
-        let starts = find_starts(&index);
+        let starts = find_starts(index.as_slice());
         Leaf {
             index,
             field,
@@ -36,15 +39,15 @@ impl<I: Index, F: Field> Leaf<I, F> {
         }
     }
 
-    // The number of cells of degree d.
-    fn count(&self, d: usize) -> usize
+    // The cells of degree d.
+    fn of_degree(&self, d: usize) -> &[I::K]
         requires { Sound I.K.Cell.kind (I.Index.cells self.now.index) self.now.starts }
-        ensures { result ≡ length (of_degree I.K.Cell.kind d (I.Index.cells self.now.index)) }
+        ensures { result.now ≡ of_degree I.K.Cell.kind d (I.Index.cells self.now.index) }
     {
         if d < 4 {
-            self.starts[d + 1] - self.starts[d]
+            &self.index.as_slice()[self.starts[d]..self.starts[d + 1]]
         } else {
-            0
+            &[]
         }
     }
 
@@ -53,45 +56,21 @@ impl<I: Index, F: Field> Leaf<I, F> {
         requires { Sound I.K.Cell.kind (I.Index.cells self.now.index) self.now.starts }
         ensures { result ≡ slice_get (of_degree I.K.Cell.kind d (I.Index.cells self.now.index)) i }
     {
-        if i < self.count(d) {
-            self.index.at(self.starts[d] + i)
-        } else {
-            None
-        }
-    }
-}
-
-// 1 if the cell at i has a degree below d, else 0.
-fn one_below<I: Index>(index: &I, i: usize, d: usize) -> usize
-    ensures { result ≡ one_below I.K.Cell.kind d (slice_get (I.Index.cells index.now) i) }
-{
-    match index.at(i) {
-        Some(c) => if c.degree() < d { 1 } else { 0 },
-        None => 0,
+        self.of_degree(d).get(i).copied()
     }
 }
 
 // The number of cells of a degree below d.
-fn count_below<I: Index>(index: &I, d: usize) -> usize
-    ensures { result ≡ length (below_degree I.K.Cell.kind d (I.Index.cells index.now)) }
+fn count_below<K: Cell>(cells: &[K], d: usize) -> usize
+    ensures { result ≡ length (below_degree K.Cell.kind d cells.now) }
 {
-    let mut n = 0;
-    for i in 0..index.len() {
-        n += one_below(index, i, d);
-    }
-    n
+    cells.iter().filter(|c| c.degree() < d).count()
 }
 
-fn find_starts<I: Index>(index: &I) -> [usize; 5]
-    ensures { Starts I.K.Cell.kind (I.Index.cells index.now) result }
+fn find_starts<K: Cell>(cells: &[K]) -> [usize; 5]
+    ensures { Starts K.Cell.kind cells.now result }
 {
-    [
-        count_below(index, 0),
-        count_below(index, 1),
-        count_below(index, 2),
-        count_below(index, 3),
-        count_below(index, 4),
-    ]
+    array::from_fn(|d| count_below(cells, d))
 }
 
 // The code of a sign: 1, or the negative of 1.
@@ -104,44 +83,24 @@ fn sign_code<F: Field>(field: &F, s: Sign) -> u8
     }
 }
 
-// The sign of g if the face of c with the number f is g.
-fn sign_at<K: Cell, F: Field>(field: &F, g: &K, c: &K, f: usize) -> Option<u8>
-    ensures { result ≡ sign_at F.Field.codes K.Cell.kind g.now
-        (slice_get (K.Cell.kind.faces c.now) f) }
-{
-    match c.face(f) {
-        Some(x) => if x.cell.rank() == g.rank() {
-            Some(sign_code(field, x.sign))
-        } else {
-            None
-        },
-        None => None,
-    }
-}
-
 // The sign of g where it stands among the faces of c, else 0.
 fn incidence<K: Cell, F: Field>(field: &F, g: &K, c: &K) -> u8
     ensures { result ≡ incidence F.Field.codes K.Cell.kind g.now
         (K.Cell.kind.faces c.now) }
 {
-    for f in 0..c.face_count() {
-        if let Some(code) = sign_at(field, g, c, f) {
-            return code;
-        }
-    }
-    0
+    (0..c.face_count())
+        .filter_map(|f| c.face(f))
+        .find(|face| face.cell.rank() == g.rank())
+        .map_or(0, |face| sign_code(field, face.sign))
 }
 
 // The entry at the row of g and the column of c, where both are there.
 fn between<K: Cell, F: Field>(field: &F, row: Option<K>, column: Option<K>) -> u8
     ensures { result ≡ between F.Field.codes K.Cell.kind row column }
 {
-    match row {
-        Some(g) => match column {
-            Some(c) => incidence(field, &g, &c),
-            None => 0,
-        },
-        None => 0,
+    match (row, column) {
+        (Some(g), Some(c)) => incidence(field, &g, &c),
+        _ => 0,
     }
 }
 
@@ -161,7 +120,7 @@ impl<I: Index, F: Field> Complex for Leaf<I, F> {
     }
 
     fn dim(&self, k: usize) -> usize {
-        self.count(k)
+        self.of_degree(k).len()
     }
 
     fn entry(&self, k: usize, i: usize, j: usize) -> u8 {

@@ -18,7 +18,7 @@ pub trait Complex {
 
     ghost meaning: { Self → Meaning };
 
-    // what the two halves of a constructor establish
+    // what the two halves of a constructor establish; the type does not hold it, since a constructor asks nothing
     ghost sound: { Self → Type 0 };
 
     fn field(&self) -> &Self::F;
@@ -31,6 +31,8 @@ pub trait Complex {
         requires { sound self.now }
         ensures { result ≡ (meaning self.now).dim k };
 
+    // Degree, row and column stay three numbers: a question asks for each anew, so a struct of them would only be made
+    // and taken apart.
     fn entry(&self, k: usize, i: usize, j: usize) -> u8
         requires { sound self.now }
         ensures { result ≡ (meaning self.now).entry k i j };
@@ -50,7 +52,7 @@ pub fn count_cells<C: Complex>(c: &C) -> usize
 {
     c.law();
     let mut n = 0;
-    for k in 0..c.top() + 1 {
+    for k in 0..=c.top() {
         n += c.dim(k);
     }
     n

@@ -1,7 +1,8 @@
 -- The degrees in an ascending list of valid cells: they follow one another, so each is a segment of the list.
-use Rattle.std.proofs.Common.{◌≡◌, ℕ, zero, suc, ◌+◌, ◌<◌, ◌≤◌, Bool, true, false, cond, eqb, ltb, List, [], ◌∷◌, length, filter, sym, refl, ap, ◌∙◌, inl, inr, zero-add, add-one, arith}
-use Rattle.std.specs.List.{AllByRecursion, slice_get}
+use Rattle.std.proofs.Common.{◌≡◌, ℕ, zero, suc, ◌+◌, ◌<◌, ◌≤◌, Bool, true, false, cond, eqb, ltb, List, [], ◌∷◌, length, filter, take, drop, sym, refl, ap, ◌∙◌, inl, inr, zero-add, add-one, arith}
+use Rattle.std.specs.List.{AllByRecursion}
 use Rattle.std.proofs.ByRecursion.{All-weaker}
+use Rattle.std.proofs.lemmas.List.{nil_from_length}
 use Rattle.std.proofs.lemmas.Bool.{cases_lt, cases_order, eq-eqb, ne_eqb, lt-ltb, le-ltb, cond-true, cond-false}
 use Rattle.std.proofs.lemmas.Bool.Decides.{nat_tests}
 use Rattle.linear.specs.Sums.{total}
@@ -101,36 +102,21 @@ module _ {K : Type 0} (k : Kind K) (kind : IsKind k) (d : ℕ) where
     below_degree_skip : d ≤ k.degree c → length (below_degree k d (c ∷ cs)) ≡ length (below_degree k d cs)
     below_degree_skip h = ap length (cond-false (ltb (k.degree c) d) _ _ (le-ltb (k.degree c) d h))
 
-  nth_cons :
-      (c : K) (xs ys : List K) (i : ℕ) → ((j : ℕ) → i ≡ suc j → slice_get xs j ≡ slice_get ys j) → slice_get (c ∷ xs) i ≡ slice_get (c ∷ ys) i
-  nth_cons c xs ys zero rest = refl
-  nth_cons c xs ys (suc i) rest = rest i refl
-
   -- the cells of degree d stand one after the other, from the first place after those of the lower degrees
-  pub nth_of_degree :
-      (cs : List K) (i : ℕ) → AllByRecursion (λ c. k.valid c ≡ true) cs → Ascending k cs → i < length (of_degree k d cs) →
-      slice_get (of_degree k d cs) i ≡ slice_get cs (length (below_degree k d cs) + i)
-  nth_of_degree [] i valid asc w = absurd (omega arith)
-  nth_of_degree (c ∷ cs) i valid asc w =
+  pub of_degree_segment :
+      (cs : List K) → AllByRecursion (λ c. k.valid c ≡ true) cs → Ascending k cs →
+      take (length (of_degree k d cs)) (drop (length (below_degree k d cs)) cs) ≡ of_degree k d cs
+  of_degree_segment [] valid asc = refl
+  of_degree_segment (c ∷ cs) valid asc =
       let rise = degrees_rise c cs valid.0 valid.1 asc.0 in
+      let rest = of_degree_segment cs valid.1 asc.1 in
       elim (cases_order (k.degree c) d) [
         | inl e ↦
-            (let first = of_degree_first c cs e in
-            let none = none_below c cs rise (omega arith) in
-            let same = below_degree_skip c cs (omega arith) in
-            let start : i ≡ length (below_degree k d (c ∷ cs)) + i = omega (arith, none, same) in
-            ap (λ xs. slice_get xs i) first
-            ∙ nth_cons c (of_degree k d cs) cs i
-            (λ j h.
-            nth_of_degree cs j valid.1 asc.1 (omega (arith, ap length first))
-            ∙ ap (slice_get cs) (omega (arith, none)))
-            ∙ ap (slice_get (c ∷ cs)) start)
-        | inr (inl l) ↦
-            (let skip = of_degree_skip c cs (λ e. omega arith) in
-            let start : suc (length (below_degree k d cs) + i) ≡ length (below_degree k d (c ∷ cs)) + i =
-            omega (arith, below_degree_first c cs l)
-            in
-            ap (λ xs. slice_get xs i) skip ∙ nth_of_degree cs i valid.1 asc.1 (omega (arith, ap length skip))
-            ∙ ap (slice_get (c ∷ cs)) start)
-        | inr (inr l) ↦ absurd (omega (arith, none_of c cs rise l, ap length (of_degree_skip c cs (λ e. omega arith))))
+            (let none = none_below c cs rise (omega arith) in
+            rw (of_degree_first c cs e, below_degree_skip c cs (omega arith), none)
+            (ap (λ xs. c ∷ xs) (rw none at rest)))
+        | inr (inl l) ↦ rw (of_degree_skip c cs (λ e. omega arith), below_degree_first c cs l) rest
+        | inr (inr l) ↦
+            (let none = nil_from_length (of_degree k d cs) (none_of c cs rise l) in
+            rw (of_degree_skip c cs (λ e. omega arith), none) refl)
       ]

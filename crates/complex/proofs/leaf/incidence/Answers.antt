@@ -1,23 +1,20 @@
--- The face that is g, one face more, and the end.
-use Rattle.std.proofs.Common.{arith}
-use Rattle.complex.specs.Leaf.{incidence}
-use Rattle.complex.proofs.leaf.Steps.{incidence_stop, incidence_more, incidence_all}
+-- The faces by their numbers, and the first of them that is the cell.
+use Rattle.std.proofs.Common.{rules, tests, arith}
+use Rattle.std.specs.List.{slice_get}
+use Rattle.std.proofs.lemmas.Iterator.{YieldsList-from_range}
+use Rattle.std.proofs.lemmas.Iterator.Consumers.{YieldsList-from_filter_map}
+use Rattle.std.proofs.lemmas.Iterator.Search.{find_from_yields_List}
+use Rattle.complex.proofs.leaf.Steps.{is_cell, incidence_found}
 use Rattle.complex.proofs.leaf.incidence.Goals as goal
-
-pub returns-in-Some : goal.returns-in-Some
-returns-in-Some g c =
-    let f = g.F.Field.codes in let k = g.K.Cell.kind in let l = c.loop-f in
-    let x = c.args.g.now in let xs = k.faces c.args.c.now in
-    incidence_stop f k x xs l.f (incidence f k x xs) l.invariant c.in-Some.code c.in-Some.ensures
-
-pub loop-f-preserved : goal.loop-f-preserved
-loop-f-preserved g c =
-    let f = g.F.Field.codes in let k = g.K.Cell.kind in let l = c.loop-f in
-    let x = c.args.g.now in let xs = k.faces c.args.c.now in
-    incidence_more f k x xs l.f (incidence f k x xs) l.invariant c.in_default.ensures
 
 pub returns : goal.returns
 returns g c =
-    let f = g.F.Field.codes in let k = g.K.Cell.kind in let l = c.loop-f in
-    let x = c.args.g.now in let xs = k.faces c.args.c.now in
-    incidence_all f k x xs l.f (incidence f k x xs) l.invariant (omega arith)
+    let f = g.F.Field.codes in let k = g.K.Cell.kind in let x = c.args.g.now in
+    let fs = k.faces c.args.c.now in let n = c.face_count.result in
+    let found =
+    find_from_yields_List (is_cell f k x) _ _ c.find.result c.find.ensures.ran
+    (YieldsList-from_filter_map _ (slice_get fs) (YieldsList-from_range 0 n n (cc) (omega arith))
+    c.filter_map.ensures.closure (λ i r q h. search (rules, tests)))
+    (λ y b q h. search (rules, tests))
+    in
+    incidence_found f k x fs n c.map_or.result c.find.result c.face_count.ensures found (search rules)
