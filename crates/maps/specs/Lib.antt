@@ -1,3 +1,2 @@
 pub mod Inclusion
 pub mod InclusionTest
-pub mod Steps

@@ -41,9 +41,7 @@ fn cone_top<M: ChainMap>(m: &M) -> usize
     requires { M.ChainMap.sound m.now }
     ensures { result ≡ (cone M.F.Field.codes (M.ChainMap.meaning m.now)).top }
 {
-    let target = m.target().top();
-    let source = limited_top(m.source()) + 1;
-    if target < source { source } else { target }
+    m.target().top().max(limited_top(m.source()) + 1)
 }
 
 // How many of the cone's cells of degree k are the source's.

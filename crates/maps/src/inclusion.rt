@@ -4,7 +4,6 @@ ghost use Rattle.index.specs.Closed.{Ascending};
 ghost use Rattle.complex.specs.Starts.{Sound};
 ghost use Rattle.maps.specs.Inclusion.{same_cell, inclusion, Included, SoundInclusion};
 ghost use Rattle.maps.specs.InclusionTest.{inclusion_test, TellsInclusion};
-ghost use Rattle.maps.specs.Steps.{TellsHeld};
 
 use crate::ChainMap;
 use cell::Cell;
@@ -14,30 +13,18 @@ use complex::leaf::Leaf;
 use field::Field;
 use index::Index;
 
-// Whether a cell stands in the list, if the list ascends; a cell that is not there is not missing.
-fn holds<I: Index>(index: &I, cell: Option<I::K>) -> bool
-    ensures { TellsHeld I.K.Cell.kind (I.Index.cells index.now) cell result }
-{
-    match cell {
-        Some(c) => match index.find(&c) {
-            Some(_) => true,
-            None => false,
-        },
-        None => true,
-    }
-}
-
 // Whether each cell of the smaller list stands in the larger, or the number of the first that does not.
+#[tactic(auto, using(crate::proofs::inclusion::Testing::answers))]
 pub fn check_inclusion<I: Index>(smaller: &I, larger: &I) -> Result<(), PileFault>
     ensures is { Ascending I.K.Cell.kind (I.Index.cells larger.now) → result ≡ inclusion_test
         I.K.Cell.kind (I.Index.cells smaller.now) (I.Index.cells larger.now) }
     ensures law { Ascending I.K.Cell.kind (I.Index.cells larger.now) → TellsInclusion
         I.K.Cell.kind (I.Index.cells smaller.now) (I.Index.cells larger.now) result }
 {
-    for n in 0..smaller.len() {
-        if !holds(larger, smaller.at(n)) {
+    for (n, cell) in smaller.as_slice().iter().enumerate() {
+        let Some(_) = larger.find(cell) else {
             return Err(PileFault::NotIncluded(n));
-        }
+        };
     }
     Ok(())
 }
@@ -46,12 +33,9 @@ pub fn check_inclusion<I: Index>(smaller: &I, larger: &I) -> Result<(), PileFaul
 fn same_cell<K: Cell>(row: Option<K>, column: Option<K>) -> u8
     ensures { result ≡ same_cell K.Cell.kind row column }
 {
-    match row {
-        Some(g) => match column {
-            Some(c) => if g.rank() == c.rank() { 1 } else { 0 },
-            None => 0,
-        },
-        None => 0,
+    match (row, column) {
+        (Some(g), Some(c)) if g.rank() == c.rank() => 1,
+        _ => 0,
     }
 }
 

@@ -21,7 +21,7 @@ pub trait ChainMap {
 
     ghost meaning: { Self → MapMeaning };
 
-    // what the two halves of a constructor establish
+    // what the two halves of a constructor establish; the type does not hold it, since a constructor asks nothing
     ghost sound: { Self → Type 0 };
 
     fn field(&self) -> &Self::F;

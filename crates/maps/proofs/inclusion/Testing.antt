@@ -1,15 +1,14 @@
 -- What the test of an inclusion answers, and what its answer says.
-use Rattle.std.proofs.Common.{◌≡◌, ℕ, zero, suc, ◌+◌, ◌≤◌, Bool, true, false, ◌⊎◌, List, [], ◌∷◌, length, take, Ok, Err, Option, Result, refl, ap, ◌∙◌, subst, inl, inr, add-one, arith}
-use Rattle.std.specs.List.{slice_get}
+use Rattle.std.proofs.Common.{◌≡◌, ℕ, zero, suc, ◌+◌, ◌<◌, ◌≤◌, get_or, sym, false, ◌⊎◌, List, [], ◌∷◌, length, take, Ok, Err, Result, refl, ap, ◌∙◌, subst, inl, inr, arith}
 use Rattle.std.proofs.lemmas.List.{take_all}
-use Rattle.std.proofs.lemmas.Bool.{cases_Bool, cond-true, cond-false, both_ways}
+use Rattle.std.proofs.lemmas.Option.{slice_get-get_or}
+use Rattle.std.proofs.lemmas.Bool.{cases_Bool, cond-true, cond-false}
 use Rattle.cell.specs.Kind.{Kind}
 use Rattle.index.specs.Closed.{held}
 use Rattle.complex.specs.declared.fault.PileFault.{PileFault}
 use Rattle.complex.specs.declared.fault.PileFault.TheVariants.{NotIncluded}
 use Rattle.maps.specs.Inclusion.{Included}
 use Rattle.maps.specs.InclusionTest.{included_from, inclusion_test, FirstMissing, TellsInclusion}
-use Rattle.maps.specs.Steps.{cell_held}
 
 module _ {K : Type 0} (k : Kind K) (cs : List K) where
   included_or_missing : (bs : List K) → Included k bs cs ⊎ ((n : ℕ) × FirstMissing k bs cs n)
@@ -47,44 +46,18 @@ module _ {K : Type 0} (k : Kind K) (cs : List K) where
   test_missing bs n first =
       let same : 0 + n ≡ n = omega arith in from_missing bs n 0 first ∙ ap (λ (m : ℕ). Err (NotIncluded m)) same
 
-  -- what a look-up tells of the cell with the number n
-  pub cell_held_nth :
-      (bs : List K) (n : ℕ) (o : Option K) (t b : Bool) → o ≡ slice_get bs n → t ≡ cell_held k cs o → t ≡ b →
-      cell_held k cs (slice_get bs n) ≡ b
-  cell_held_nth bs n o t b at told e = cc
-
-  -- the turns of the loop
-  pub included_more :
-      (bs : List K) (n : ℕ) → Included k (take n bs) cs → cell_held k cs (slice_get bs n) ≡ true →
-      Included k (take (n + 1) bs) cs
-  included_more [] n all there = rw (add-one n) tt
-  included_more (b ∷ bs) zero all there = (there, tt)
-  included_more (b ∷ bs) (suc n) all there =
-      rw (add-one (suc n)) (all.0, rw (add-one n) at (included_more bs n all.1 there))
-
-  pub first_missing :
-      (bs : List K) (n : ℕ) → Included k (take n bs) cs → cell_held k cs (slice_get bs n) ≡ false → FirstMissing k bs cs n
-  first_missing [] n all gone = absurd (both_ways true gone refl)
-  first_missing (b ∷ bs) zero all gone = (tt, gone)
-  first_missing (b ∷ bs) (suc n) all gone =
-      let rest = first_missing bs n all.1 gone in ((all.0, rest.0), rest.1)
-
-  pub included_all : (bs : List K) (n : ℕ) → Included k (take n bs) cs → length bs ≤ n → Included k bs cs
-  included_all bs n all w = subst (λ xs. Included k xs cs) (take_all n bs w) all
-
   module _ (bs : List K) (r : Result (Unit {0}) PileFault) (is : r ≡ inclusion_test k bs cs) where
     accepted_included : r ≡ Ok tt → Included k bs cs
     accepted_included e =
         elim (included_or_missing bs) [
           | inl all ↦ all
-          | inr (n, first) ↦
-              (let m = test_missing bs n first in let z : ◌≡◌ {A = ℕ} 0 1 = cc in absurd (omega arith))
+          | inr (n, first) ↦ (let m = test_missing bs n first in cc)
         ]
 
     refused_missing : (n : ℕ) → r ≡ Err (NotIncluded n) → FirstMissing k bs cs n
     refused_missing n e =
         elim (included_or_missing bs) [
-          | inl all ↦ (let a = test_included bs all in let z : ◌≡◌ {A = ℕ} 0 1 = cc in absurd (omega arith))
+          | inl all ↦ (let a = test_included bs all in cc)
           | inr (m, first) ↦
               (let t = test_missing bs m first in let same : m ≡ n = cc in
               subst (λ (i : ℕ). FirstMissing k bs cs i) same first)
@@ -95,3 +68,26 @@ module _ {K : Type 0} (k : Kind K) (cs : List K) where
       accepted = (accepted_included, λ all. is ∙ test_included bs all);
       refused = λ n. (refused_missing n, λ first. is ∙ test_missing bs n first);
     }
+
+  -- the cells before the number n stand in the larger list
+  module _ (bs : List K) (n : ℕ) (before : Included k (take n bs) cs) where
+    -- and the cell b with that number does not
+    module _ (b : K) (w : n < length bs) (read : b ≡ get_or bs n b) (gone : held k (k.rank b) cs ≡ false) where
+      first_missing : FirstMissing k bs cs n
+      first_missing = (before, rw (slice_get-get_or bs n b w, ← read) gone)
+
+      pub answer_missing : Err (NotIncluded n) ≡ inclusion_test k bs cs
+      answer_missing = sym (test_missing bs n first_missing)
+
+      pub tells_missing : TellsInclusion k bs cs (Err (NotIncluded n))
+      tells_missing = tells_inclusion bs (Err (NotIncluded n)) answer_missing
+
+    -- and there is none after them
+    module _ (end : length bs ≤ n) where
+      pub answer_included : Ok tt ≡ inclusion_test k bs cs
+      answer_included = sym (test_included bs (subst (λ xs. Included k xs cs) (take_all n bs end) before))
+
+      pub tells_included : TellsInclusion k bs cs (Ok tt)
+      tells_included = tells_inclusion bs (Ok tt) answer_included
+
+pub ruleset answers = (answer_missing, tells_missing, answer_included, tells_included)

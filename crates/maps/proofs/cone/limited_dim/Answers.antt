@@ -3,8 +3,7 @@ use Rattle.std.proofs.Common.{arith}
 use Rattle.linear.proofs.Limits.{dim_le}
 use Rattle.maps.proofs.cone.limited_dim.Goals as goal
 
-pub returns : goal.returns
-returns g c =
-    let m = g.C.Complex.meaning c.args.c.now in
-    let most = dim_le g.C.F.Field.codes m c.law.ensures.complex c.law.ensures.limits c.args.k in
-    record { is = c.dim.ensures; small = omega (arith, c.dim.ensures) }
+pub returns-clause-small : goal.returns-clause-small
+returns-clause-small g c =
+    let law = c.law.ensures in
+    omega (arith, dim_le g.C.F.Field.codes (g.C.Complex.meaning c.args.c.now) law.complex law.limits c.args.k)
