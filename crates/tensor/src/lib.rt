@@ -3,14 +3,15 @@
 // A call of a complex's law brings in what is known of it; it does nothing when it runs.
 #![tactic(auto)]
 
-ghost use Rattle.std.specs.Prelude.{◌≡◌, suc, ◌*◌, ◌≤◌, Some};
+ghost use Rattle.std.specs.Prelude.{◌≡◌, suc, ◌*◌, ◌<◌, ◌≤◌, Some, IfSome};
+ghost use Rattle.std.specs.Option.{option_map};
 ghost use Rattle.linear.specs.Complexes.{WithinLimits};
 ghost use Rattle.linear.specs.Sums.{total};
 ghost use Rattle.linear.specs.Tensor.{block, locate, pair_at, signed, between, tensor};
 ghost use Rattle.linear.specs.TensorLaw.{IsTensor};
 ghost use Rattle.complex.specs.Limits.{cells, limits_test, Limited};
 ghost use Rattle.tensor.specs.Sound.{Sound};
-ghost use Rattle.tensor.specs.Steps.{meant, meant_if};
+ghost use Rattle.tensor.specs.Steps.{meant};
 
 use complex::fault::{PileFault, check_limits};
 use complex::{Complex, count_cells};
@@ -64,80 +65,6 @@ pub fn check_tensor<C: Complex, D: Complex<F = C::F>>(c: &C, d: &D) -> Result<()
     check_limits(count_cells(c) * count_cells(d), c.top() + d.top())
 }
 
-// How many pairs of degree k have their left cell in degree p.
-fn count_block<C: Complex, D: Complex<F = C::F>>(c: &C, d: &D, k: usize, p: usize) -> usize
-    requires left { C.Complex.sound c.now }
-    requires right { D.Complex.sound d.now }
-    requires degree { p ≤ k }
-    ensures is { result ≡ block (C.Complex.meaning c.now) (D.Complex.meaning d.now) k p }
-    ensures few { result ≤ 1024 * 1024 }
-{
-    c.law();
-    d.law();
-    c.dim(p) * d.dim(k - p)
-}
-
-// How many pairs of degree k there are.
-fn count_pairs<C: Complex, D: Complex<F = C::F>>(c: &C, d: &D, k: usize) -> usize
-    requires left { C.Complex.sound c.now }
-    requires right { D.Complex.sound d.now }
-    requires degree { k ≤ 8 }
-    ensures { result ≡ total (suc k)
-        (block (C.Complex.meaning c.now) (D.Complex.meaning d.now) k) }
-{
-    let mut n = 0;
-    for p in 0..k + 1 {
-        n += count_block(c, d, k, p);
-    }
-    n
-}
-
-// Where the pair of degree k with the number n lies: the degree of its left cell, and its place among the pairs with
-// a left cell of this degree.
-fn locate<C: Complex, D: Complex<F = C::F>>(
-    c: &C,
-    d: &D,
-    k: usize,
-    n: usize,
-) -> Option<(usize, usize)>
-    requires left { C.Complex.sound c.now }
-    requires right { D.Complex.sound d.now }
-    requires degree { k ≤ 8 }
-    ensures { result ≡ locate
-        (block (C.Complex.meaning c.now) (D.Complex.meaning d.now) k) (suc k) n }
-{
-    let mut rest = n;
-    for p in 0..k + 1 {
-        let size = count_block(c, d, k, p);
-        if rest < size {
-            return Some((p, rest));
-        }
-        rest -= size;
-    }
-    None
-}
-
-// The pair of degree k with the number n.
-fn pair_at<C: Complex, D: Complex<F = C::F>>(c: &C, d: &D, k: usize, n: usize) -> Option<Pair>
-    requires left { C.Complex.sound c.now }
-    requires right { D.Complex.sound d.now }
-    requires degree { k ≤ 8 }
-    ensures { meant_if result
-        ≡ pair_at (C.Complex.meaning c.now) (D.Complex.meaning d.now) k n }
-{
-    match locate(c, d, k, n) {
-        Some((p, place)) => {
-            let width = d.dim(k - p);
-            Some(Pair {
-                p,
-                i: place / width,
-                j: place % width,
-            })
-        }
-        None => None,
-    }
-}
-
 // A code with the sign (-1)^p.
 fn signed<F: Field>(field: &F, p: usize, code: u8) -> u8
     ensures { result ≡ signed F.Field.codes p code }
@@ -145,44 +72,91 @@ fn signed<F: Field>(field: &F, p: usize, code: u8) -> u8
     if p % 2 == 0 { code } else { field.negate(code) }
 }
 
-// The entry of the boundary of degree k at the row of x and the column of y: by a face of the left cell, or by one of
-// the right cell with a sign.
-fn entry_at<C: Complex, D: Complex<F = C::F>>(c: &C, d: &D, k: usize, x: Pair, y: Pair) -> u8
-    requires left { C.Complex.sound c.now }
-    requires right { D.Complex.sound d.now }
-    ensures { result ≡ between C.F.Field.codes
-        (C.Complex.meaning c.now) (D.Complex.meaning d.now) k
-        (Some (meant x)) (Some (meant y)) }
-{
-    if x.p < y.p && y.p - x.p == 1 && x.j == y.j {
-        return c.entry(y.p, x.i, y.i);
+// Soundness is kept as a requires: as an invariant of the type it would be asked of each caller of new. So is the bound
+// on a degree, without which a sum over degrees may not fit.
+impl<C: Complex, D: Complex<F = C::F>> Tensor<C, D> {
+    // How many pairs of degree k have their left cell in degree p.
+    fn count_block(&self, k: usize, p: usize) -> usize
+        requires sound { C.Complex.sound self.now.left × D.Complex.sound self.now.right }
+        requires degree { p ≤ k }
+        ensures is { result
+            ≡ block (C.Complex.meaning self.now.left) (D.Complex.meaning self.now.right) k p }
+        ensures few { result ≤ 1024 * 1024 }
+    {
+        let Tensor { left, right } = self;
+        left.law();
+        right.law();
+        left.dim(p) * right.dim(k - p)
     }
-    if x.p == y.p && x.i == y.i {
-        return signed(c.field(), y.p, d.entry(k.saturating_sub(y.p), x.j, y.j));
-    }
-    0
-}
 
-// The same where both pairs are there, else 0.
-fn between<C: Complex, D: Complex<F = C::F>>(
-    c: &C,
-    d: &D,
-    k: usize,
-    row: Option<Pair>,
-    column: Option<Pair>,
-) -> u8
-    requires left { C.Complex.sound c.now }
-    requires right { D.Complex.sound d.now }
-    ensures { result ≡ between C.F.Field.codes
-        (C.Complex.meaning c.now) (D.Complex.meaning d.now) k
-        (meant_if row) (meant_if column) }
-{
-    match row {
-        Some(x) => match column {
-            Some(y) => entry_at(c, d, k, x, y),
-            None => 0,
-        },
-        None => 0,
+    // How many pairs of degree k there are.
+    fn count_pairs(&self, k: usize) -> usize
+        requires sound { C.Complex.sound self.now.left × D.Complex.sound self.now.right }
+        requires degree { k ≤ 8 }
+        ensures { result ≡ total (suc k)
+            (block (C.Complex.meaning self.now.left) (D.Complex.meaning self.now.right) k) }
+    {
+        let mut n = 0;
+        for p in 0..=k {
+            n += self.count_block(k, p);
+        }
+        n
+    }
+
+    // Where the pair of degree k with the number n lies: the degree of its left cell, and its place among the pairs
+    // with a left cell of this degree.
+    fn locate(&self, k: usize, n: usize) -> Option<(usize, usize)>
+        requires sound { C.Complex.sound self.now.left × D.Complex.sound self.now.right }
+        requires degree { k ≤ 8 }
+        ensures is { result ≡ locate
+            (block (C.Complex.meaning self.now.left) (D.Complex.meaning self.now.right) k) (suc k) n }
+        ensures within { IfSome result (λ at. (at.0 ≤ k)
+            × (at.1 < block (C.Complex.meaning self.now.left) (D.Complex.meaning self.now.right) k at.0)) }
+    {
+        let mut rest = n;
+        for p in 0..=k {
+            let size = self.count_block(k, p);
+            if rest < size {
+                return Some((p, rest));
+            }
+            rest -= size;
+        }
+        None
+    }
+
+    // The pair of degree k with the number n.
+    fn pair_at(&self, k: usize, n: usize) -> Option<Pair>
+        requires sound { C.Complex.sound self.now.left × D.Complex.sound self.now.right }
+        requires degree { k ≤ 8 }
+        ensures { option_map meant result
+            ≡ pair_at (C.Complex.meaning self.now.left) (D.Complex.meaning self.now.right) k n }
+    {
+        let (p, place) = self.locate(k, n)?;
+        let width = self.right.dim(k - p);
+        Some(Pair {
+            p,
+            i: place / width,
+            j: place % width,
+        })
+    }
+
+    // The entry of the boundary of degree k at the row of x and the column of y: by a face of the left cell, or by
+    // one of the right cell with a sign.
+    fn entry_at(&self, k: usize, x: Pair, y: Pair) -> u8
+        requires sound { C.Complex.sound self.now.left × D.Complex.sound self.now.right }
+        ensures { result ≡ between C.F.Field.codes
+            (C.Complex.meaning self.now.left) (D.Complex.meaning self.now.right) k
+            (Some (meant x)) (Some (meant y)) }
+    {
+        let Tensor { left, right } = self;
+        match y.p.checked_sub(x.p) {
+            Some(1) if x.j == y.j => left.entry(y.p, x.i, y.i),
+            Some(0) if x.i == y.i => {
+                let code = right.entry(k.saturating_sub(y.p), x.j, y.j);
+                signed(left.field(), y.p, code)
+            }
+            _ => 0,
+        }
     }
 }
 
@@ -207,20 +181,18 @@ impl<C: Complex, D: Complex<F = C::F>> Complex for Tensor<C, D> {
         if k > self.top() {
             return 0;
         }
-        count_pairs(&self.left, &self.right, k)
+        self.count_pairs(k)
     }
 
     fn entry(&self, k: usize, i: usize, j: usize) -> u8 {
         self.law();
-        if k == 0 {
+        if k == 0 || k > self.top() {
             return 0;
         }
-        if k > self.top() {
-            return 0;
+        match (self.pair_at(k - 1, i), self.pair_at(k, j)) {
+            (Some(x), Some(y)) => self.entry_at(k, x, y),
+            _ => 0,
         }
-        let row = pair_at(&self.left, &self.right, k - 1, i);
-        let column = pair_at(&self.left, &self.right, k, j);
-        between(&self.left, &self.right, k, row, column)
     }
 
     fn law(&self) {

@@ -2,8 +2,8 @@
 use Rattle.std.proofs.Common.{◌≡◌, ◌+◌}
 use Rattle.linear.specs.Sums.{total}
 use Rattle.linear.specs.Tensor.{block}
-use Rattle.tensor.proofs.locate.Given as goal
+use Rattle.tensor.proofs.Tensor.locate.Given as goal
 
 abbrev pub invariant-loop-p : goal.invariant-loop-p
 invariant-loop-p g l =
-    total l.p (block (g.C.Complex.meaning l.c) (g.D.Complex.meaning l.d) l.k) + l.rest ≡ l.n
+    total l.p (block (g.C.Complex.meaning l.self.left) (g.D.Complex.meaning l.self.right) l.k) + l.rest ≡ l.n
