@@ -15,10 +15,10 @@ use Rattle.lists.proofs.Nearness.{decides_belongs, faces_near}
 
 module _ (flags : List Bool) where
   held_near : (c : Cube) → cubes.valid c ≡ true → Near flags c → held cubes (cubes.rank c) (block flags) ≡ true
-  held_near c valid w = held_block flags c valid ∙ (decides_belongs flags c valid).1 w
+  held_near c valid w = held_block (belongs flags) c valid ∙ (decides_belongs flags c valid).1 w
 
   near_held : (c : Cube) → cubes.valid c ≡ true → held cubes (cubes.rank c) (block flags) ≡ true → Near flags c
-  near_held c valid h = (decides_belongs flags c valid).0 (sym (held_block flags c valid) ∙ h)
+  near_held c valid h = (decides_belongs flags c valid).0 (sym (held_block (belongs flags) c valid) ∙ h)
 
   faces_held :
       (d : ℕ) (fs : List (Face Cube)) → Faces cubes d fs → AllByRecursion (λ f. Near flags f.cell) fs
@@ -35,21 +35,21 @@ module _ (flags : List Bool) where
   block_faces : AllByRecursion (HasFaces cubes (block flags)) (block flags)
   block_faces =
       All-weaker (λ c. (cubes.valid c ≡ true) × (belongs flags c ≡ true)) (HasFaces cubes (block flags)) has_faces
-      (block flags) (block_below_belongs flags 19652)
+      (block flags) (block_below_belongs (belongs flags) 19652)
 
   block_closed : length (block flags) ≤ 1024 → Closed cubes (block flags)
   block_closed few = record {
     few = few;
-    valid = block_below_valid flags 19652;
-    ascending = block_below_ascending flags 19652;
+    valid = block_below_valid (belongs flags) 19652;
+    ascending = block_below_ascending (belongs flags) 19652;
     faces = block_faces;
   }
 
   pub is_block : IsBlock flags (block flags)
   is_block = record {
     exact = λ c valid. (near_held c valid, held_near c valid);
-    valid = block_below_valid flags 19652;
-    ascending = block_below_ascending flags 19652;
+    valid = block_below_valid (belongs flags) 19652;
+    ascending = block_below_ascending (belongs flags) 19652;
     faces = block_faces;
     closed = (block_closed, λ h. h.few);
   }

@@ -1,4 +1,4 @@
--- Which cubes are chosen for a block, and where they stand: true of any rule by which a cube belongs to a block.
+-- Which cubes are chosen, and where they stand: true of any test of cubes.
 use Rattle.std.proofs.Common.{◌≡◌, ℕ, zero, suc, ◌<◌, Bool, true, false, cond, ◌&&◌, ◌||◌, eqb, ltb, List, [], ◌∷◌, ◌++◌, sym, refl, ap, ◌∙◌, subst, inl, inr, add-one, arith}
 use Rattle.std.specs.List.{AllByRecursion}
 use Rattle.std.proofs.ByRecursion.{All-push, All-weaker}
@@ -9,8 +9,8 @@ use Rattle.cell.specs.Kind.{Kind}
 use Rattle.cell.specs.declared.cube.Cube.{Cube}
 use Rattle.cell.specs.Cubes.{cubes}
 use Rattle.index.specs.Closed.{held, Ascending}
-use Rattle.lists.specs.Block.{belongs, block, block_below, chosen, cube_of}
-use Rattle.lists.proofs.Blocks.{block_below_more, block_below_none}
+use Rattle.lists.specs.Ranks.{block_below, chosen, cube_of}
+use Rattle.lists.proofs.Below.{block_below_more, block_below_none}
 
 -- a list with one more cell at its end, where b is true
 module _ {K : Type 0} (cs : List K) (c : K) where
@@ -55,60 +55,60 @@ passes_more test n r rank is = elim (cases_order r n) [
 cube_of_valid : (n : ℕ) → cubes.valid (cube_of n) ≡ true
 cube_of_valid n = grind (arith, nat_tests)
 
-same_cube : (c d : Cube) → c.x ≡ d.x → c.y ≡ d.y → c.z ≡ d.z → c ≡ d
+pub same_cube : (c d : Cube) → c.x ≡ d.x → c.y ≡ d.y → c.z ≡ d.z → c ≡ d
 same_cube c d e f g =
     ap (λ (n : ℕ). record { x = n; y = c.y; z = c.z }) e ∙ ap (λ (n : ℕ). record { x = d.x; y = n; z = c.z }) f
     ∙ ap (λ (n : ℕ). record { x = d.x; y = d.y; z = n }) g
 
-module _ (flags : List Bool) where
-  chosen_rank : (n : ℕ) → chosen flags n ≡ true → cubes.rank (cube_of n) ≡ n
-  chosen_rank n h = eqb-true _ n (and_parts (eqb (cubes.rank (cube_of n)) n) (belongs flags (cube_of n)) h).0
+module _ (test : Cube → Bool) where
+  chosen_rank : (n : ℕ) → chosen test n ≡ true → cubes.rank (cube_of n) ≡ n
+  chosen_rank n h = eqb-true _ n (and_parts (eqb (cubes.rank (cube_of n)) n) (test (cube_of n)) h).0
 
-  chosen_belongs : (n : ℕ) → chosen flags n ≡ true → belongs flags (cube_of n) ≡ true
-  chosen_belongs n h = (and_parts (eqb (cubes.rank (cube_of n)) n) (belongs flags (cube_of n)) h).1
+  chosen_belongs : (n : ℕ) → chosen test n ≡ true → test (cube_of n) ≡ true
+  chosen_belongs n h = (and_parts (eqb (cubes.rank (cube_of n)) n) (test (cube_of n)) h).1
 
   -- what holds of each cube that is chosen below n holds of each cube of the block below n
   all_block_below :
-      (P : Cube → Type 0) (n : ℕ) → ((m : ℕ) → m < n → chosen flags m ≡ true → P (cube_of m))
-      → AllByRecursion P (block_below flags n)
-  all_block_below P zero each = subst (AllByRecursion P) (sym (block_below_none flags)) tt
+      (P : Cube → Type 0) (n : ℕ) → ((m : ℕ) → m < n → chosen test m ≡ true → P (cube_of m))
+      → AllByRecursion P (block_below test n)
+  all_block_below P zero each = subst (AllByRecursion P) (sym (block_below_none test)) tt
   all_block_below P (suc n) each =
-      subst (AllByRecursion P) (sym (block_below_more flags n) ∙ ap (block_below flags) (add-one n))
-      (all_choice (block_below flags n) (cube_of n) P (chosen flags n)
+      subst (AllByRecursion P) (sym (block_below_more test n) ∙ ap (block_below test) (add-one n))
+      (all_choice (block_below test n) (cube_of n) P (chosen test n)
       (all_block_below P n (λ m l. each m (omega arith))) (each n (omega arith)))
 
-  rank_below : (n : ℕ) → AllByRecursion (λ c. cubes.rank c < n) (block_below flags n)
+  rank_below : (n : ℕ) → AllByRecursion (λ c. cubes.rank c < n) (block_below test n)
   rank_below n = all_block_below (λ c. cubes.rank c < n) n (λ m l h. omega (arith, chosen_rank m h))
 
-  pub block_below_valid : (n : ℕ) → AllByRecursion (λ c. cubes.valid c ≡ true) (block_below flags n)
+  pub block_below_valid : (n : ℕ) → AllByRecursion (λ c. cubes.valid c ≡ true) (block_below test n)
   block_below_valid n = all_block_below (λ c. cubes.valid c ≡ true) n (λ m l h. cube_of_valid m)
 
   pub block_below_belongs :
-      (n : ℕ) → AllByRecursion (λ c. (cubes.valid c ≡ true) × (belongs flags c ≡ true)) (block_below flags n)
+      (n : ℕ) → AllByRecursion (λ c. (cubes.valid c ≡ true) × (test c ≡ true)) (block_below test n)
   block_below_belongs n =
-      all_block_below (λ c. (cubes.valid c ≡ true) × (belongs flags c ≡ true)) n
+      all_block_below (λ c. (cubes.valid c ≡ true) × (test c ≡ true)) n
       (λ m l h. (cube_of_valid m, chosen_belongs m h))
 
-  pub block_below_ascending : (n : ℕ) → Ascending cubes (block_below flags n)
-  block_below_ascending zero = subst (Ascending cubes) (sym (block_below_none flags)) tt
+  pub block_below_ascending : (n : ℕ) → Ascending cubes (block_below test n)
+  block_below_ascending zero = subst (Ascending cubes) (sym (block_below_none test)) tt
   block_below_ascending (suc n) =
-      subst (Ascending cubes) (sym (block_below_more flags n) ∙ ap (block_below flags) (add-one n))
-      (ascending_choice cubes (block_below flags n) (cube_of n) (chosen flags n) (block_below_ascending n)
+      subst (Ascending cubes) (sym (block_below_more test n) ∙ ap (block_below test) (add-one n))
+      (ascending_choice cubes (block_below test n) (cube_of n) (chosen test n) (block_below_ascending n)
       (λ h. All-weaker (λ c. cubes.rank c < n) (λ c. cubes.rank c < cubes.rank (cube_of n))
-      (λ c l. omega (arith, chosen_rank n h)) (block_below flags n) (rank_below n)))
+      (λ c l. omega (arith, chosen_rank n h)) (block_below test n) (rank_below n)))
 
   -- a rank stands in the block below n exactly if it is chosen and below n
-  held_block_below : (n r : ℕ) → held cubes r (block_below flags n) ≡ (ltb r n && chosen flags r)
+  held_block_below : (n r : ℕ) → held cubes r (block_below test n) ≡ (ltb r n && chosen test r)
   held_block_below zero r =
-      ap (held cubes r) (block_below_none flags) ∙ sym (and_left (ltb r 0) (chosen flags r) (le-ltb r 0 (omega arith)))
+      ap (held cubes r) (block_below_none test) ∙ sym (and_left (ltb r 0) (chosen test r) (le-ltb r 0 (omega arith)))
   held_block_below (suc n) r =
-      ap (held cubes r) (sym (ap (block_below flags) (add-one n)) ∙ block_below_more flags n)
-      ∙ held_choice cubes (block_below flags n) (cube_of n) (chosen flags n) r
-      ∙ ap (λ (b : Bool). b || (chosen flags n && eqb (cubes.rank (cube_of n)) r)) (held_block_below n r)
-      ∙ passes_more (chosen flags) n r (cubes.rank (cube_of n)) (chosen_rank n)
+      ap (held cubes r) (sym (ap (block_below test) (add-one n)) ∙ block_below_more test n)
+      ∙ held_choice cubes (block_below test n) (cube_of n) (chosen test n) r
+      ∙ ap (λ (b : Bool). b || (chosen test n && eqb (cubes.rank (cube_of n)) r)) (held_block_below n r)
+      ∙ passes_more (chosen test) n r (cubes.rank (cube_of n)) (chosen_rank n)
 
 -- the cube of the rank of a cube is that cube
-module _ (flags : List Bool) (c : Cube) (valid : cubes.valid c ≡ true) where
+module _ (test : Cube → Bool) (c : Cube) (valid : cubes.valid c ≡ true) where
   cube_of_rank : cube_of (cubes.rank c) ≡ c
   cube_of_rank =
       same_cube (cube_of (cubes.rank c)) c (grind (arith, nat_tests)) (grind (arith, nat_tests)) (grind (arith, nat_tests))
@@ -116,9 +116,9 @@ module _ (flags : List Bool) (c : Cube) (valid : cubes.valid c ≡ true) where
   rank_small : cubes.rank c < 19652
   rank_small = grind (arith, nat_tests)
 
-  pub held_block : held cubes (cubes.rank c) (block flags) ≡ belongs flags c
+  pub held_block : held cubes (cubes.rank c) (block_below test 19652) ≡ test c
   held_block =
-      held_block_below flags 19652 (cubes.rank c)
-      ∙ ap (λ (b : Bool). b && chosen flags (cubes.rank c)) (lt-ltb (cubes.rank c) 19652 rank_small)
-      ∙ ap (λ (d : Cube). eqb (cubes.rank d) (cubes.rank c) && belongs flags d) cube_of_rank
-      ∙ ap (λ (b : Bool). b && belongs flags c) (eq-eqb (cubes.rank c) (cubes.rank c) refl)
+      held_block_below test 19652 (cubes.rank c)
+      ∙ ap (λ (b : Bool). b && chosen test (cubes.rank c)) (lt-ltb (cubes.rank c) 19652 rank_small)
+      ∙ ap (λ (d : Cube). eqb (cubes.rank d) (cubes.rank c) && test d) cube_of_rank
+      ∙ ap (λ (b : Bool). b && test c) (eq-eqb (cubes.rank c) (cubes.rank c) refl)

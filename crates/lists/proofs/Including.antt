@@ -28,4 +28,4 @@ module _ (few more : List Bool) (within : (n : ℕ) → get_or few n false ≡ t
       All-weaker (λ c. (cubes.valid c ≡ true) × (belongs few c ≡ true))
       (λ c. held cubes (cubes.rank c) (block more) ≡ true)
       (λ c h. ((is_block more).exact c h.0).1 (near_more c ((decides_belongs few c h.0).0 h.1)))
-      (block few) (block_below_belongs few 19652)
+      (block few) (block_below_belongs (belongs few) 19652)

@@ -2,9 +2,9 @@
 --
 -- The voxels are flags, the one of voxel (x, y, z) at 64 z + 8 y + x, each coordinate from 0 to 7. Voxel (x, y, z)
 -- is the solid cube (2x + 1, 2y + 1, 2z + 1), and what lies within 1 of it in each coordinate.
-use Rattle.std.specs.Prelude.{◌≡◌, ℕ, zero, suc, ◌+◌, ◌-◌, ◌*◌, ◌/◌, ◌%◌, min, Bool, false, cond, ◌&&◌, ◌||◌, List, [], ◌∷◌, ◌++◌, ◌==◌, slice_index_or}
+use Rattle.std.specs.Prelude.{◌≡◌, ℕ, ◌+◌, ◌-◌, ◌*◌, ◌/◌, min, Bool, false, ◌||◌, List, slice_index_or}
 use Rattle.cell.specs.declared.cube.Cube.{Cube}
-use Rattle.cell.specs.Cubes.{cubes}
+use Rattle.lists.specs.Ranks.{block_below}
 
 -- the least and the greatest coordinate of a voxel within 1 of a cube's coordinate
 abbrev pub low : ℕ → ℕ
@@ -28,23 +28,6 @@ either test n = test (low n) || test (high n)
 abbrev pub belongs : List Bool → Cube → Bool
 belongs flags c = either (λ k. either (λ j. either (λ i. filled flags i j k) c.x) c.y) c.z
 
--- the cube of rank n, if there is one
-abbrev pub cube_of : ℕ → Cube
-cube_of n = record { x = n % 17; y = n / 17 % 17; z = n / 289 % 17 }
-
--- whether there is a cube of rank n, and it belongs to the block
-abbrev pub chosen : List Bool → ℕ → Bool
-chosen flags n = cubes.rank (cube_of n) == n && belongs flags (cube_of n)
-
--- the cube of rank n, if there is one and it belongs to the block
-abbrev pub cubes_at : List Bool → ℕ → List Cube
-cubes_at flags n = cond (chosen flags n) (cube_of n ∷ []) []
-
--- the cubes of the block with a rank below n, ascending
-unfoldable pub block_below : List Bool → ℕ → List Cube
-block_below flags zero = []
-block_below flags (suc n) = block_below flags n ++ cubes_at flags n
-
--- the block: ranks of cubes are below 4 × 17³
+-- the block, ascending: ranks of cubes are below 4 × 17³
 abbrev pub block : List Bool → List Cube
-block flags = block_below flags 19652
+block flags = block_below (belongs flags) 19652

@@ -1,3 +1,4 @@
 pub mod Working
+pub mod Ranks
 pub mod Block
 pub mod BlockLaw

@@ -1,81 +1,81 @@
 // The cubes of a block of voxels.
-ghost use Rattle.std.specs.Prelude.{◌≡◌, ◌<◌, Decides};
-ghost use Rattle.lists.specs.Block.{Blank, belongs, block, chosen, cube_of, cubes_at, either, filled, high, low};
+ghost use Rattle.std.specs.Prelude.{◌≡◌, ◌≢◌, ℕ, ◌+◌, ◌%◌, ◌<◌, ◌≤◌, ◌⊎◌, true, false, [], ◌∷◌, filter};
+ghost use Rattle.std.specs.Prelude.{Decides, IfSome, IfNone};
+ghost use Rattle.lists.specs.Block.{Blank, belongs, block, filled, high, low};
 ghost use Rattle.lists.specs.BlockLaw.{IsBlock};
+ghost use Rattle.lists.specs.Ranks.{block_below, row};
 ghost use Rattle.lists.specs.Working.{Grows, Holds};
 
 use crate::working::WorkingList;
-use cell::{Cell, Cube};
+use cell::Cube;
 
-// How many ranks a cube may have.
-const RANKS: usize = 19652;
-
-fn low_of(n: u8) -> usize
+fn low_of(n: u8) -> u8
     ensures { result ≡ low n }
 {
-    n.saturating_sub(1) as usize / 2
+    n.saturating_sub(1) / 2
 }
 
-fn high_of(n: u8) -> usize
+fn high_of(n: u8) -> u8
     ensures { result ≡ high n }
 {
-    (n as usize / 2).min(7)
+    (n / 2).min(7)
 }
 
-fn is_filled(voxels: &[bool], x: usize, y: usize, z: usize) -> bool
-    requires { (x < 256) × (y < 256) × (z < 256) }
+// Whether a test holds of the lower or of the higher voxel along a coordinate.
+fn either<F: Fn(u8) -> bool>(test: F, n: u8) -> bool
+    requires { F.IsAlwaysCallable test }
+    ensures { (F.post test (low n) true × (result ≡ true))
+        ⊎ (F.post test (low n) false × F.post test (high n) result) }
+{
+    test(low_of(n)) || test(high_of(n))
+}
+
+fn is_filled(voxels: &[bool], x: u8, y: u8, z: u8) -> bool
     ensures { result ≡ filled voxels.now x y z }
 {
-    let at = 64 * z + 8 * y + x;
-    if at < voxels.len() { voxels[at] } else { false }
-}
-
-fn near_x(voxels: &[bool], x: u8, j: usize, k: usize) -> bool
-    requires { (j < 256) × (k < 256) }
-    ensures { result ≡ either (λ i. filled voxels.now i j k) x }
-{
-    is_filled(voxels, low_of(x), j, k) || is_filled(voxels, high_of(x), j, k)
-}
-
-fn near_y(voxels: &[bool], x: u8, y: u8, k: usize) -> bool
-    requires { k < 256 }
-    ensures { result ≡ either (λ j. either (λ i. filled voxels.now i j k) x) y }
-{
-    near_x(voxels, x, low_of(y), k) || near_x(voxels, x, high_of(y), k)
+    let at = 64 * z as usize + 8 * y as usize + x as usize;
+    voxels.get(at).copied().unwrap_or(false)
 }
 
 // Whether a cube belongs to the block.
-fn is_in_block(voxels: &[bool], c: &Cube) -> bool
-    ensures { result ≡ belongs voxels.now c.now }
+fn is_in_block(voxels: &[bool], cube: &Cube) -> bool
+    ensures { result ≡ belongs voxels.now cube.now }
 {
-    near_y(voxels, c.x, c.y, low_of(c.z)) || near_y(voxels, c.x, c.y, high_of(c.z))
+    let in_row = |j, k| either(|i| is_filled(voxels, i, j, k), cube.x);
+    let in_layer = |k| either(|j| in_row(j, k), cube.y);
+    either(in_layer, cube.z)
 }
 
-// The cube of rank n, if there is one.
-fn cube_at(n: usize) -> Cube
-    ensures { result ≡ cube_of n }
+// The parity of x in the cubes of a degree with the coordinates y and z, if there are such cubes.
+fn x_parity(degree: u8, y: u8, z: u8) -> Option<u8>
+    ensures some { IfSome result (λ parity. (parity ≤ 1) × (parity + y % 2 + z % 2 ≡ degree)) }
+    ensures none { IfNone result ((x : ℕ) → x % 2 + y % 2 + z % 2 ≢ degree) }
 {
-    Cube {
-        x: (n % 17) as u8,
-        y: (n / 17 % 17) as u8,
-        z: (n / 289 % 17) as u8,
+    degree
+        .checked_sub(y % 2 + z % 2)
+        .filter(|parity| *parity <= 1)
+}
+
+// Puts a cube into the list, if it belongs to the block.
+fn choose(voxels: &[bool], cube: Cube, list: &mut WorkingList<Cube>)
+    ensures { Grows list.old list.new (filter (belongs voxels.now) (cube ∷ [])) }
+{
+    if is_in_block(voxels, &cube) {
+        list.push(cube);
     }
 }
 
-// Whether there is a cube of rank n, and it belongs to the block.
-fn is_chosen(voxels: &[bool], n: usize) -> bool
-    ensures { result ≡ chosen voxels.now n }
+// Puts the cubes of a row of the block into the list: those of a degree, ascending along x.
+fn choose_row(voxels: &[bool], degree: u8, y: u8, z: u8, list: &mut WorkingList<Cube>)
+    requires within { (y < 17) × (z < 17) }
+    requires before { Holds list.old (block_below (belongs voxels.now) (row degree y z)) }
+    ensures { Holds list.new (block_below (belongs voxels.now) (row degree y z + 17)) }
 {
-    let c = cube_at(n);
-    c.rank() == n as u64 && is_in_block(voxels, &c)
-}
-
-// Puts the cube of rank n into the list, if there is one and it belongs to the block.
-fn choose(voxels: &[bool], n: usize, list: &mut WorkingList<Cube>)
-    ensures { Grows list.old list.new (cubes_at voxels.now n) }
-{
-    if is_chosen(voxels, n) {
-        list.push(cube_at(n));
+    if let Some(parity) = x_parity(degree, y, z) {
+        for half in 0..9 - parity {
+            let x = 2 * half + parity;
+            choose(voxels, Cube { x, y, z }, list);
+        }
     }
 }
 
@@ -83,15 +83,11 @@ fn choose(voxels: &[bool], n: usize, list: &mut WorkingList<Cube>)
 fn is_blank(voxels: &[bool]) -> bool
     ensures { Decides result (Blank voxels.now) }
 {
-    for flag in voxels {
-        if *flag {
-            return false;
-        }
-    }
-    true
+    !voxels.contains(&true)
 }
 
-// The cubes of the block, ascending; where no voxel is filled none is sought, and past 1,024 no more are built.
+// The cubes of the block, ascending. Where no voxel is filled none is sought; past 1,024 cubes no further row is.
+#[tactic(auto, using(crate::proofs::BlockLaws::is_block, crate::proofs::Blocks::holds_same))]
 pub fn block_of(voxels: &[bool]) -> WorkingList<Cube>
     ensures holds { Holds result (block voxels.now) }
     ensures law { IsBlock voxels.now (block voxels.now) }
@@ -100,11 +96,15 @@ pub fn block_of(voxels: &[bool]) -> WorkingList<Cube>
     if is_blank(voxels) {
         return list;
     }
-    for n in 0..RANKS {
-        if list.is_overfull() {
-            return list;
+    for degree in 0..4 {
+        for z in 0..17 {
+            for y in 0..17 {
+                if list.is_overfull() {
+                    return list;
+                }
+                choose_row(voxels, degree, y, z, &mut list);
+            }
         }
-        choose(voxels, n, &mut list);
     }
     list
 }
