@@ -6,7 +6,8 @@ use Rattle.std.proofs.lemmas.Bool.{cond-false, cond-true, eqb-true, le-leb, lt-l
 use Rattle.reader.specs.declared.record.Flaw.{Flaw}
 use Rattle.reader.specs.declared.record.Flaw.TheVariants.{CutShort}
 use Rattle.reader.specs.declared.record.Record.{Record}
-use Rattle.reader.specs.Records.{Kind, Split, body, body_of, front_flaw, kinds, split}
+use Rattle.reader.specs.Records.{Kind, Split, body, body_of, kinds, split}
+use Rattle.reader.specs.Steps.{front_flaw}
 
 module _ (n : ℕ) (make : (ℕ → ℕ) → Record) (xs : List ℕ) where
   pub body_taken : n ≤ length xs → body_of n make xs ≡ Ok (make (λ i. get_or xs i 0), drop n xs)

@@ -10,10 +10,11 @@ use Rattle.reader.specs.declared.record.Record.{Record}
 use Rattle.reader.specs.declared.record.Record.TheVariants as kind
 use Rattle.reader.specs.declared.turn.Progress.{Progress}
 use Rattle.reader.specs.JobLaw.{Follows}
-use Rattle.reader.specs.Sheets.{Contents}
 use Rattle.reader.specs.Saying.{drawn_by}
-use Rattle.reader.specs.Turns.{advanced, group_of, place}
 use Rattle.reader.proofs.Taking.{Passes, place_earliest, taken_passes, turn_places}
+use Rattle.reader.specs.Judging.{advanced}
+use Rattle.reader.specs.Notes.{Notes}
+use Rattle.reader.specs.Turns.{group_of, place}
 
 -- the simplices that come after a job stands at p
 pub record Ascents (p : Progress) (ss : List Simplex) : Type 0 where
@@ -22,7 +23,7 @@ pub record Ascents (p : Progress) (ss : List Simplex) : Type 0 where
   pub above_key : place p.group ≡ 3 → AllByRecursion (λ s. p.key < simplices.rank s) ss
   pub ended : 4 ≤ place p.group → ss ≡ []
 
-module _ (k next : Contents) (ss : List Simplex) where
+module _ (k next : Notes) (ss : List Simplex) where
   not_before : (r : Record) → Passes k r next → place k.progress.group ≤ place (group_of r)
   not_before r p = omega (arith, (turn_places k r next p).0, place_earliest k.progress.group)
 
@@ -60,19 +61,14 @@ module _ (k next : Contents) (ss : List Simplex) where
 
   ascents_more : (r : Record) → Passes k r next → Ascents (advanced k.progress r) ss →
       Ascents k.progress (drawn_by r ++ ss)
-  ascents_more (kind.Field b) p a = ascents_other (kind.Field b) p (λ e. omega arith) a
-  ascents_more (kind.Filled v) p a = ascents_other (kind.Filled v) p (λ e. omega arith) a
-  ascents_more (kind.Pad v) p a = ascents_other (kind.Pad v) p (λ e. omega arith) a
   ascents_more (kind.Drawn s) p a = ascents_drawn s p a
-  ascents_more (kind.Question f d) p a = ascents_other (kind.Question f d) p (λ e. omega arith) a
-  ascents_more (kind.First t) p a = ascents_other (kind.First t) p (λ e. omega arith) a
-  ascents_more (kind.Second t) p a = ascents_other (kind.Second t) p (λ e. omega arith) a
+  ascents_more r p a = ascents_other r p (λ e. omega arith) a
 
-pub ascents_follow : (records : List Record) (k end : Contents) → Follows k records end →
+pub ascents_follow : (records : List Record) (k end : Notes) → Follows k records end →
     Ascents k.progress (flat_map drawn_by records)
 ascents_follow [] k end f = record { valid = tt; ascending = tt; above_key = λ e. tt; ended = λ late. refl }
 ascents_follow (r ∷ records) k end f =
     let p = taken_passes k r f.0 f.1 in
     ascents_more k f.0 (flat_map drawn_by records) r p
-    (subst (λ (c : Contents). Ascents c.progress (flat_map drawn_by records)) p.leads
+    (subst (λ (c : Notes). Ascents c.progress (flat_map drawn_by records)) p.leads
     (ascents_follow records f.0 end f.2))

@@ -1,15 +1,13 @@
 -- The groups of records that follow one another come in the order of the format.
-use Rattle.std.proofs.Common.{◌≡◌, ℕ, suc, ◌≤◌, true, leb, ◌⊎◌, List, [], ◌∷◌, ◌++◌, map, get_or, replicate, sym, refl, ap, ◌∙◌, subst, inl, inr, arith}
-use Rattle.std.proofs.lemmas.Bool.{false≢true}
+use Rattle.std.proofs.Common.{◌≡◌, ℕ, suc, ◌≤◌, ◌⊎◌, List, [], ◌∷◌, ◌++◌, map, get_or, replicate, sym, refl, ap, ◌∙◌, subst, inl, inr, arith}
 use Rattle.reader.specs.declared.record.Group.{Group}
 use Rattle.reader.specs.declared.record.Group.TheVariants.{Start, Field, Voxels, Drawing, Question, First, Second}
 use Rattle.reader.specs.declared.record.Record.{Record}
 use Rattle.reader.specs.Format.{InOrder}
 use Rattle.reader.specs.JobLaw.{Follows}
-use Rattle.reader.specs.Reading.{asked}
-use Rattle.reader.specs.Sheets.{Contents, blank}
-use Rattle.reader.specs.Turns.{earliest, group_of, latest, place}
 use Rattle.reader.proofs.Taking.{taken_passes, turn_places}
+use Rattle.reader.specs.Notes.{Notes, blank}
+use Rattle.reader.specs.Turns.{group_of, place, turns}
 
 -- the groups that come after a group, up to the end of an accepted job
 abbrev pub terms : ℕ → ℕ → List Group
@@ -33,12 +31,7 @@ groups = Start ∷ Field ∷ Voxels ∷ Drawing ∷ Question ∷ First ∷ Secon
 
 pub is_placed : (h : Group) → h ≡ get_or groups (place h) Start
 is_placed Start = refl
-is_placed Field = refl
-is_placed Voxels = refl
-is_placed Drawing = refl
-is_placed Question = refl
-is_placed First = refl
-is_placed Second = refl
+is_placed _ = refl
 
 module _ (gs : List Group) where
   -- one group more at the front
@@ -103,7 +96,7 @@ module _ (gs : List Group) where
         | inr e ↦ at_place First h 6 first_second e
       ]
 
-  rests_more : (g h : Group) → earliest g ≤ place h → place h ≤ latest g → More g h
+  rests_more : (g h : Group) → (turns g).0 ≤ place h → place h ≤ (turns g).1 → More g h
   rests_more Start h low high = at_place Start h 1 start_more (omega arith)
   rests_more Field h low high = after_voxels h low high
   rests_more Voxels h low high = after_voxels h low high
@@ -112,25 +105,23 @@ module _ (gs : List Group) where
   rests_more First h low high = after_first h low high
   rests_more Second h low high = at_place Second h 6 second_more (omega arith)
 
-rests_none : (g : Group) → leb 4 (place g) ≡ true → Rests g []
-rests_none Start e = absurd (false≢true e)
-rests_none Field e = absurd (false≢true e)
-rests_none Voxels e = absurd (false≢true e)
-rests_none Drawing e = absurd (false≢true e)
+rests_none : (g : Group) → 4 ≤ place g → Rests g []
 rests_none Question e = (0, 0, refl)
 rests_none First e = (0, 0, refl)
 rests_none Second e = (0, refl)
+rests_none _ e = absurd (omega arith)
 
-rests_after : (records : List Record) (k end : Contents) → Follows k records end → asked end ≡ true →
+rests_after : (records : List Record) (k end : Notes) → Follows k records end → 4 ≤ place end.progress.group →
     Rests k.progress.group (map group_of records)
-rests_after [] k end f is_asked = rests_none k.progress.group (ap asked f ∙ is_asked)
-rests_after (r ∷ records) k end f is_asked =
+rests_after [] k end f late =
+    rests_none k.progress.group (subst (λ (c : Notes). 4 ≤ place c.progress.group) (sym f) late)
+rests_after (r ∷ records) k end f late =
     let p = taken_passes k r f.0 f.1 in
-    let on = rests_after records f.0 end f.2 is_asked in
+    let on = rests_after records f.0 end f.2 late in
     let t = turn_places k r f.0 p in
     rests_more (map group_of records) k.progress.group (group_of r) t.0 t.1
-    (subst (λ (c : Contents). Rests c.progress.group (map group_of records)) p.leads on)
+    (subst (λ (c : Notes). Rests c.progress.group (map group_of records)) p.leads on)
 
-pub in_order : (records : List Record) (end : Contents) → Follows blank records end → asked end ≡ true →
+pub in_order : (records : List Record) (end : Notes) → Follows blank records end → 4 ≤ place end.progress.group →
     InOrder (map group_of records)
-in_order records end f is_asked = rests_after records blank end f is_asked
+in_order records end f late = rests_after records blank end f late

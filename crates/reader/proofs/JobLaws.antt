@@ -1,38 +1,41 @@
 -- The law of a job.
-use Rattle.std.proofs.Common.{◌≡◌, ℕ, ◌-◌, ◌<◌, ◌≤◌, ◌⊎◌, List, [], ◌++◌, length, get_or, Ok, Err, Result, sym, refl, ap, ◌∙◌, subst, inl, inr, arith, w8, Fits}
+use Rattle.std.proofs.Common.{◌≡◌, ℕ, ◌-◌, ◌<◌, ◌≤◌, ◌⊎◌, List, [], ◌++◌, length, get_or, Option, Ok, Err, Result, sym, refl, ap, ◌∙◌, subst, inl, inr, arith, w8, Fits}
 use Rattle.std.specs.List.{flat_map}
 use Rattle.std.proofs.ByRecursion.{All-from_get_or}
 use Rattle.std.proofs.lemmas.List.{append-nil, length-append}
-use Rattle.std.proofs.lemmas.Bool.{cases_lt, cond-true}
-use Rattle.reader.specs.declared.fault.JobFault.{JobFault}
-use Rattle.reader.specs.declared.fault.JobFault.TheVariants.{Flawed, TooLong}
+use Rattle.std.proofs.lemmas.Bool.{cases_lt}
+use Rattle.reader.specs.declared.fault.ReadFault.{ReadFault}
+use Rattle.reader.specs.declared.fault.ReadFault.TheVariants.{Flawed, TooLong}
 use Rattle.reader.specs.declared.record.Flaw.{Flaw}
 use Rattle.reader.specs.declared.record.Flaw.TheVariants.{OutOfTurn}
 use Rattle.reader.specs.declared.record.Record.{Record}
 use Rattle.reader.specs.Format.{bytes_of}
 use Rattle.reader.specs.JobLaw.{Begins, Fails, JobLaw, Says}
-use Rattle.reader.specs.Reading.{asked, read_job}
-use Rattle.reader.specs.Sheets.{Contents, blank}
 use Rattle.reader.specs.Telling.{IsFormed}
 use Rattle.reader.proofs.Along.{Comes, comes_along, stops_wrong}
 use Rattle.reader.proofs.Following.{Leads, Outcome, walk_outcome}
 use Rattle.reader.proofs.Formed.{formed_follows}
 use Rattle.reader.proofs.RecordBytes.{AllBytes}
-use Rattle.reader.proofs.Tellings.{tells}
+use Rattle.reader.proofs.Tellings.{tells, tells_formed}
 use Rattle.reader.proofs.Walks.{read_ended, read_job_long, read_job_walk}
+use Rattle.reader.specs.Notes.{Notes, blank}
+use Rattle.reader.specs.Reading.{read_job}
+use Rattle.reader.specs.Sheets.{Contents}
+use Rattle.std.specs.Option.{ok_or}
+use Rattle.reader.proofs.Knowing.{known_start}
 
-begins : (job : List ℕ) (k : Contents) (rest : List ℕ) (l : Leads blank job k rest) → Begins job l.records k rest
+begins : (job : List ℕ) (k : Notes) (rest : List ℕ) (l : Leads blank job k rest) → Begins job l.records k rest
 begins job k rest l = record { bytes = l.bytes_are; follow = l.follow }
 
 module _ (job : List ℕ) where
   -- what the walk says, unless the job is too long
-  job_outcome : AllBytes job → (r : Result Contents JobFault) → read_job job ≡ r → length job ≤ 16384 →
+  job_outcome : AllBytes job → (r : Result Contents ReadFault) → read_job job ≡ r → length job ≤ 16384 →
       Outcome (length job) blank job r
   job_outcome small r e short =
       subst (Outcome (length job) blank job) (sym (read_job_walk job short) ∙ e)
-      (walk_outcome (length job) (length job) blank job (omega arith) small)
+      (walk_outcome (length job) (length job) blank job (omega arith) small known_start)
 
-  not_long : (r : Result Contents JobFault) → read_job job ≡ r → (r ≡ Err TooLong → ⊥) → length job ≤ 16384
+  not_long : (r : Result Contents ReadFault) → read_job job ≡ r → (r ≡ Err TooLong → ⊥) → length job ≤ 16384
   not_long r e never =
       elim (cases_lt 16384 (length job)) [
         | inl long ↦ absurd (never (sym e ∙ read_job_long job long))
@@ -40,7 +43,7 @@ module _ (job : List ℕ) where
       ]
 
   -- the walk along the records at the front
-  comes_to : (records : List Record) (k : Contents) (rest : List ℕ) → Begins job records k rest →
+  comes_to : (records : List Record) (k : Notes) (rest : List ℕ) → Begins job records k rest →
       Comes (length job) (length job) blank job k rest
   comes_to records k rest b =
       subst (λ ys. Comes (length job) (length job) blank ys k rest) (sym b.bytes)
@@ -51,13 +54,19 @@ module _ (job : List ℕ) where
   says_from small k e =
       let short = not_long (Ok k) e (λ w. let z : ◌≡◌ {A = ℕ} 0 1 = cc in omega arith) in
       let o = job_outcome small (Ok k) e short in
-      record { short = short; records = o.0.records; whole = begins job k [] o.0; is_asked = o.1 }
+      record {
+        short = short;
+        records = o.1.records;
+        notes = o.0;
+        whole = begins job o.0 [] o.1;
+        complete = o.2;
+      }
 
   accepted_from : (k : Contents) → Says job k → read_job job ≡ Ok k
   accepted_from k s =
-      let goes = comes_to s.records k [] s.whole in
-      read_job_walk job s.short ∙ goes.walk ∙ read_ended goes.left (length job) k [] refl
-      ∙ cond-true (asked k) (Ok k) (Err (Flawed OutOfTurn (length job))) s.is_asked
+      let goes = comes_to s.records s.notes [] s.whole in
+      read_job_walk job s.short ∙ goes.walk ∙ read_ended goes.left (length job) s.notes [] refl
+      ∙ ap (λ (o : Option Contents). ok_or o (Flawed OutOfTurn (length job))) s.complete
 
   -- the bytes before the rest
   before_rest : (front rest : List ℕ) → job ≡ front ++ rest → length job - length rest ≡ length front
@@ -72,7 +81,7 @@ module _ (job : List ℕ) where
       record {
         short = short;
         records = o.leads.records;
-        k = o.end;
+        notes = o.end;
         rest = o.rest;
         begins = begins job o.end o.rest o.leads;
         place = here ∙ before_rest (flat_map bytes_of o.leads.records) o.rest o.leads.bytes_are;
@@ -81,9 +90,9 @@ module _ (job : List ℕ) where
 
   flawed_from : (f : Flaw) (at : ℕ) → Fails job f at → read_job job ≡ Err (Flawed f at)
   flawed_from f at s =
-      let goes = comes_to s.records s.k s.rest s.begins in
+      let goes = comes_to s.records s.notes s.rest s.begins in
       read_job_walk job s.short ∙ goes.walk
-      ∙ stops_wrong goes.left (length job) s.k s.rest f goes.enough s.wrong
+      ∙ stops_wrong goes.left (length job) s.notes s.rest f goes.enough s.wrong
       ∙ ap (λ (m : ℕ). Err (Flawed f m))
       (before_rest (flat_map bytes_of s.records) s.rest s.begins.bytes ∙ sym s.place)
 
@@ -97,26 +106,27 @@ module _ (job : List ℕ) where
   formed_from : (k : Contents) → Says job k → IsFormed job
   formed_from k s = record {
     short = s.short;
-    order = k.progress.order;
+    order = k.order;
     records = s.records;
     bytes = s.whole.bytes ∙ append-nil (flat_map bytes_of s.records);
-    formed = (tells s.records k s.whole.follow s.is_asked).formed;
+    formed = tells_formed s.records s.notes s.whole.follow k s.complete;
   }
 
   says_formed : IsFormed job → (k : Contents) × Says job k
   says_formed w =
       let ends = formed_follows w.records w.order w.formed in (
-        ends.0,
+        ends.2,
         record {
           short = w.short;
           records = w.records;
+          notes = ends.0;
           whole = record { bytes = w.bytes ∙ sym (append-nil (flat_map bytes_of w.records)); follow = ends.1 };
-          is_asked = ends.2;
+          complete = ends.3;
         },
       )
 
   -- a job that is not too long
-  decided_from : AllBytes job → length job ≤ 16384 → (r : Result Contents JobFault) → read_job job ≡ r →
+  decided_from : AllBytes job → length job ≤ 16384 → (r : Result Contents ReadFault) → read_job job ≡ r →
       ((k : Contents) × Says job k) ⊎ (((f : Flaw) × (at : ℕ) × Fails job f at) ⊎ (16384 < length job))
   decided_from small short (Ok k) e = inl (k, says_from small k e)
   decided_from small short (Err fault) e =
@@ -134,7 +144,7 @@ module _ (job : List ℕ) where
       | inl long ↦ inr (inr long)
       | inr short ↦ decided_from small short (read_job job) refl
     ];
-    told = λ k s. tells s.records k s.whole.follow s.is_asked;
+    told = λ k s. tells s.records s.notes s.whole.follow k s.complete;
   }
 
   -- of the bytes that a program holds

@@ -6,11 +6,15 @@ pub mod Formed
 pub mod Fronts
 pub mod GroupOrder
 pub mod JobLaws
+pub mod Knowing
+pub mod Mapping
 pub mod Marks
+pub mod Naming
+pub mod Numbers
+pub mod Padding
 pub mod RecordBytes
 pub mod RecordOrder
 pub mod Singles
 pub mod Taking
 pub mod Tellings
 pub mod Walks
-pub mod Padding

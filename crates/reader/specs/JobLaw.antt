@@ -2,39 +2,41 @@
 -- what is wrong, and at which byte.
 --
 -- It holds of each list of bytes, numbers below 256. An empty job asks nothing, and is refused at its end, byte 0.
-use Rattle.std.specs.Prelude.{◌≡◌, ℕ, ◌<◌, ◌≤◌, true, false, ◌⊎◌, ◌↔◌, List, [], ◌∷◌, ◌++◌, length, Ok, Err}
+use Rattle.std.specs.Prelude.{◌≡◌, ℕ, ◌<◌, ◌≤◌, ◌⊎◌, ◌↔◌, List, [], ◌∷◌, ◌++◌, length, Some, None, Ok, Err}
 use Rattle.std.specs.List.{flat_map}
-use Rattle.reader.specs.declared.fault.JobFault.TheVariants.{TooLong, Flawed}
+use Rattle.reader.specs.declared.fault.ReadFault.TheVariants.{TooLong, Flawed}
 use Rattle.reader.specs.declared.record.Flaw.{Flaw}
 use Rattle.reader.specs.declared.record.Flaw.TheVariants.{OutOfTurn}
 use Rattle.reader.specs.declared.record.Record.{Record}
 use Rattle.reader.specs.Format.{bytes_of}
-use Rattle.reader.specs.Reading.{asked, read_job}
+use Rattle.reader.specs.Judging.{judged}
+use Rattle.reader.specs.Notes.{Notes, blank, taken}
+use Rattle.reader.specs.Reading.{read_job}
 use Rattle.reader.specs.Records.{split}
-use Rattle.reader.specs.Sheets.{Contents, blank, taken}
+use Rattle.reader.specs.Sheets.{Contents, completed}
 use Rattle.reader.specs.Telling.{IsFormed, Tells}
-use Rattle.reader.specs.Turns.{judged}
 
--- each record is taken after the ones before it, and together they lead from one contents to another
-abbrev pub Follows : Contents → List Record → Contents → Type 0
+-- each record is taken after the ones before it, and together they lead from one state of the notes to another
+abbrev pub Follows : Notes → List Record → Notes → Type 0
 Follows k [] end = k ≡ end
-Follows k (r ∷ records) end = (next : Contents) × (taken k r ≡ Ok next) × Follows next records end
+Follows k (r ∷ records) end = (next : Notes) × (taken k r ≡ Ok next) × Follows next records end
 
 -- a job begins with records that follow one another, which lead to k, and then has the rest
-pub record Begins (job : List ℕ) (records : List Record) (k : Contents) (rest : List ℕ) : Type 0 where
+pub record Begins (job : List ℕ) (records : List Record) (k : Notes) (rest : List ℕ) : Type 0 where
   pub bytes : job ≡ flat_map bytes_of records ++ rest
   pub follow : Follows blank records k
 
--- a job is such records and no more, and asks its question
+-- a job is such records and no more, and they name its field and ask its question
 pub record Says (job : List ℕ) (k : Contents) : Type 0 where
   pub short : length job ≤ 16384
   pub records : List Record
-  pub whole : Begins job records k []
-  pub is_asked : asked k ≡ true
+  pub notes : Notes
+  pub whole : Begins job records notes []
+  pub complete : completed notes ≡ Some k
 
 -- what is wrong after k: at the end nothing was asked; elsewhere no record stands there, or one that k refuses
-abbrev pub Wrong : Contents → List ℕ → Flaw → Type 0
-Wrong k [] f = (asked k ≡ false) × (f ≡ OutOfTurn)
+abbrev pub Wrong : Notes → List ℕ → Flaw → Type 0
+Wrong k [] f = (k.progress.asked ≡ None) × (f ≡ OutOfTurn)
 Wrong k (b ∷ bytes) f =
     (split (b ∷ bytes) ≡ Err f)
     ⊎ ((r : Record) × (rest : List ℕ) × (split (b ∷ bytes) ≡ Ok (r, rest)) × (judged k.progress r ≡ Err f))
@@ -43,11 +45,11 @@ Wrong k (b ∷ bytes) f =
 pub record Fails (job : List ℕ) (f : Flaw) (at : ℕ) : Type 0 where
   pub short : length job ≤ 16384
   pub records : List Record
-  pub k : Contents
+  pub notes : Notes
   pub rest : List ℕ
-  pub begins : Begins job records k rest
+  pub begins : Begins job records notes rest
   pub place : at ≡ length (flat_map bytes_of records)
-  pub wrong : Wrong k rest f
+  pub wrong : Wrong notes rest f
 
 -- what is read of a job, exactly then: its contents, its first flaw, or that it is too long
 pub record JobLaw (job : List ℕ) : Type 0 where

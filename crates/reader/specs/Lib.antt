@@ -1,9 +1,15 @@
 pub mod Faults
 pub mod Format
 pub mod JobLaw
+pub mod Judging
+pub mod Keys
+pub mod Named
+pub mod Notes
 pub mod Reading
 pub mod Records
 pub mod Saying
 pub mod Sheets
+pub mod Steps
 pub mod Telling
 pub mod Turns
+pub mod Values

@@ -54,12 +54,7 @@ abbrev pub split : List ℕ → Split
 split [] = Err CutShort
 split (kind ∷ bytes) = body kinds kind bytes
 
--- what is wrong where a byte of kind stands and no record: its body is cut short, or it is no kind
-abbrev pub front_flaw : List Kind → ℕ → Flaw
-front_flaw [] byte = UnknownKind
-front_flaw (k ∷ ks) byte = cond (byte == k.byte) CutShort (front_flaw ks byte)
-
--- a record and the rest of the bytes, as code hands them over
+-- a record and the rest of the bytes, as they are handed over
 abbrev pub Gives : Split → Result (Record × Bor (List ℕ)) Flaw → Type 0
 Gives s (Ok p) = s ≡ Ok (p.0, p.1.now)
 Gives s (Err e) = s ≡ Err e

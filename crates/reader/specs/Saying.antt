@@ -1,53 +1,46 @@
 -- What each record says on its own, as a list of none or one.
-use Rattle.std.specs.Prelude.{ℕ, List, [], ◌∷◌}
+use Rattle.std.specs.Prelude.{ℕ, ◌==◌, cond, List, [], ◌∷◌, Option}
+use Rattle.std.specs.Result.{result_ok}
 use Rattle.cell.specs.declared.simplex.Simplex.{Simplex}
+use Rattle.reader.specs.declared.order.FieldOrder.{FieldOrder}
+use Rattle.reader.specs.declared.question.Question as question
 use Rattle.reader.specs.declared.record.Record.{Record}
-use Rattle.reader.specs.declared.record.Record.TheVariants.{Field, Filled, Pad, Drawn, Question, First, Second}
-use Rattle.reader.specs.Turns.{order_of, voxel_key}
+use Rattle.reader.specs.declared.record.Record.TheVariants.{Field, Filled, Pad, Drawn, Question}
+use Rattle.reader.specs.Keys.{voxel_key}
+use Rattle.reader.specs.Named.{order_named, question_named}
 
--- the order of the field that a record names, and the form and the degree that it asks for
-abbrev pub orders_by : Record → List ℕ
-orders_by (Field b) = order_of b ∷ []
-orders_by (Filled v) = []
-orders_by (Pad v) = []
-orders_by (Drawn s) = []
-orders_by (Question form degree) = []
-orders_by (First t) = []
-orders_by (Second t) = []
+-- the field that a record names; None where its byte names no field
+abbrev pub orders_by : Record → List (Option FieldOrder)
+orders_by (Field b) = result_ok (order_named b) ∷ []
+orders_by _ = []
 
-abbrev pub questions_by : Record → List (ℕ × ℕ)
-questions_by (Field b) = []
-questions_by (Filled v) = []
-questions_by (Pad v) = []
-questions_by (Drawn s) = []
-questions_by (Question form degree) = (form, degree) ∷ []
-questions_by (First t) = []
-questions_by (Second t) = []
+-- how many elements the byte of a record gives the field: as many as it says, and 256 for 0
+abbrev pub sizes_by : Record → List ℕ
+sizes_by (Field b) = cond (b == 0) 256 b ∷ []
+sizes_by _ = []
+
+-- the question that a record asks; None where its bytes ask none
+abbrev pub questions_by : Record → List (Option question.Question)
+questions_by (Question form degree) = result_ok (question_named form degree) ∷ []
+questions_by _ = []
+
+-- the two bytes of a record that asks: the number of a form, and a degree
+abbrev pub asked_by : Record → List (ℕ × ℕ)
+asked_by (Question form degree) = (form, degree) ∷ []
+asked_by _ = []
 
 -- the numbers of the voxels that a record fills; a pad is filled too
 abbrev pub filled_by : Record → List ℕ
-filled_by (Field b) = []
 filled_by (Filled v) = voxel_key v ∷ []
 filled_by (Pad v) = voxel_key v ∷ []
-filled_by (Drawn s) = []
-filled_by (Question form degree) = []
-filled_by (First t) = []
-filled_by (Second t) = []
+filled_by _ = []
 
+-- the numbers of the voxels that a record makes pads
 abbrev pub pads_by : Record → List ℕ
-pads_by (Field b) = []
-pads_by (Filled v) = []
 pads_by (Pad v) = voxel_key v ∷ []
-pads_by (Drawn s) = []
-pads_by (Question form degree) = []
-pads_by (First t) = []
-pads_by (Second t) = []
+pads_by _ = []
 
+-- the simplices that a record draws
 abbrev pub drawn_by : Record → List Simplex
-drawn_by (Field b) = []
-drawn_by (Filled v) = []
-drawn_by (Pad v) = []
 drawn_by (Drawn s) = s ∷ []
-drawn_by (Question form degree) = []
-drawn_by (First t) = []
-drawn_by (Second t) = []
+drawn_by _ = []

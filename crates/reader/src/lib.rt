@@ -1,7 +1,10 @@
 // Reads a job: its records in their order, and what they say.
 #![tactic(auto)]
 
+mod draft;
 pub mod fault;
+pub mod order;
+pub mod question;
 pub mod read;
 pub mod record;
 pub mod sheet;

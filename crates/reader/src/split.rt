@@ -1,6 +1,7 @@
 // Takes the first record off a job.
 ghost use Rattle.std.specs.Prelude.{◌≡◌};
-ghost use Rattle.reader.specs.Records.{Gives, front_flaw, kinds, split, term_of};
+ghost use Rattle.reader.specs.Records.{Gives, kinds, split, term_of};
+ghost use Rattle.reader.specs.Steps.{front_flaw};
 
 use crate::record::{Flaw, Record, Term, Voxel};
 use cell::Simplex;
@@ -10,12 +11,12 @@ fn term(high: u8, low: u8, coefficient: u8) -> Term
     ensures { result ≡ term_of high low coefficient }
 {
     Term {
-        cell: high as u16 * 256 + low as u16,
+        cell: u16::from_be_bytes([high, low]),
         coefficient,
     }
 }
 
-// Why no record of this kind stands there.
+// Why no record of this kind stands there. The bytes of kind are those of the patterns below.
 fn flaw_of(kind: u8) -> Flaw
     ensures { result ≡ front_flaw kinds kind }
 {

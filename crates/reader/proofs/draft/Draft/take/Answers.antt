@@ -1,8 +1,8 @@
 use Rattle.std.proofs.Common.{◌≡◌, Ok, sym, refl, ◌∙◌}
-use Rattle.reader.specs.Sheets.{noted, standing}
-use Rattle.reader.specs.Turns.{judged}
-use Rattle.reader.proofs.Taking.{shows_standing, taken_ok}
-use Rattle.reader.proofs.sheet.Sheet.take.Goals as goal
+use Rattle.reader.specs.Judging.{judged}
+use Rattle.reader.specs.Notes.{noted, standing}
+use Rattle.reader.proofs.Taking.{keeps_standing, taken_ok}
+use Rattle.reader.proofs.draft.Draft.take.Goals as goal
 
 pub returns : goal.returns
 returns c = λ k h.
@@ -12,5 +12,5 @@ returns c = λ k h.
     sym c.judge.ensures ∙ c.in_ok-progress.was in (
       standing p (noted k r),
       taken_ok k r c.args.self.now.progress h.progress p judgement,
-      shows_standing c.note.new.self _ (noted k r) p (c.note.ensures k h) refl refl refl refl,
+      keeps_standing c.note.new.self _ (noted k r) p (c.note.ensures k h) refl refl refl refl,
     )
