@@ -1,3 +1,3 @@
 pub mod Overlays
+pub mod Writing
 pub mod Pieces
-pub mod Degrees

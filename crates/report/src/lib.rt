@@ -1,97 +1,91 @@
 // Writes a report into a lent buffer.
 //
-// Every function takes the place to write at, and answers the place after what it wrote. Where the buffer
-// ends, bytes are left out and places go on, so that the last place is the length of the whole text.
+// Where the buffer ends, bytes are left out and places go on, so that the last place is the length of the whole text.
 #![tactic(auto)]
 
-ghost use Rattle.std.specs.Prelude.{◌≡◌, ◌+◌, ◌*◌, ◌^◌, ◌<◌, ◌≤◌, [], ◌∷◌, length, decimal};
-ghost use Rattle.report.specs.Buffers.{Puts, overlay};
-ghost use Rattle.report.specs.Degrees.{listed};
+ghost use Rattle.std.specs.Prelude.{◌≡◌, [], ◌∷◌, length, decimal};
+ghost use Rattle.report.specs.Buffers.{overlay};
 ghost use Rattle.report.specs.Lines.{line, numbers, report_text};
+ghost use Rattle.report.specs.Pens.{Fits, Writes};
 
-// A number for each degree from 0 to a top; past degree 8 there is none.
-#[derive(Clone, Copy)]
-pub struct ByDegree {
-    pub numbers: [usize; 9],
-    pub top: usize,
+use arrayvec::ArrayVec;
+
+// A buffer, and the place in it where the next byte goes.
+#[derive(Drop)]
+struct Pen<'a> {
+    out: &'a mut [u8],
+    at: usize,
 }
 
-impl ByDegree {
-    fn listed(&self) -> &[usize]
-        ensures is { result.now ≡ listed self.now }
-        ensures few { length result.now ≤ 9 }
+impl Pen<'_> {
+    fn put_byte(&mut self, byte: u8)
+        requires { Fits self.old (byte ∷ []) }
+        ensures { Writes self.old self.new (byte ∷ []) }
     {
-        let all = &self.numbers[..];
-        &all[0..self.top.min(8) + 1]
+        // kept as a test and a write: of a slice after `get_mut` a proof knows the length and no element
+        if self.at < self.out.len() {
+            self.out[self.at] = byte;
+        }
+        self.at += 1;
+    }
+
+    fn put(&mut self, text: &[u8])
+        requires { Fits self.old text.now }
+        ensures { Writes self.old self.new text.now }
+    {
+        for byte in text {
+            self.put_byte(*byte);
+        }
+    }
+
+    fn put_number(&mut self, n: usize)
+        requires { Fits self.old (decimal n) }
+        ensures { Writes self.old self.new (decimal n) }
+    {
+        let mut digits = itoa::Buffer::new();
+        self.put(digits.format(n).as_bytes());
+    }
+
+    // A space before each.
+    fn put_numbers(&mut self, ns: &[usize])
+        requires { Fits self.old (numbers ns.now) }
+        ensures { Writes self.old self.new (numbers ns.now) }
+    {
+        for n in ns {
+            self.put_byte(b' ');
+            self.put_number(*n);
+        }
+    }
+
+    fn put_line(&mut self, word: &[u8], ns: &[usize])
+        requires { Fits self.old (line word.now ns.now) }
+        ensures { Writes self.old self.new (line word.now ns.now) }
+    {
+        self.put(word);
+        self.put_numbers(ns);
+        self.put_byte(b'\n');
+    }
+
+    // The lines field, form and cells.
+    fn put_report(&mut self, order: usize, form: usize, cells: &[usize])
+        requires { Fits self.old (report_text order form cells.now) }
+        ensures { Writes self.old self.new (report_text order form cells.now) }
+    {
+        self.put_line(b"field", &[order]);
+        self.put_line(b"form", &[form]);
+        self.put_line(b"cells", cells);
     }
 }
 
-fn put_byte(out: &mut [u8], at: usize, byte: u8) -> usize
-    requires { at + 1 < 2 ^ 64 }
-    ensures { Puts out.old out.new at result (byte ∷ []) }
-{
-    if at < out.len() {
-        out[at] = byte;
-    }
-    at + 1
-}
-
-fn put(out: &mut [u8], at: usize, text: &[u8]) -> usize
-    requires { at < 2 ^ 62 }
-    ensures { Puts out.old out.new at result text.now }
-{
-    let mut end = at;
-    for byte in text {
-        end = put_byte(out, end, *byte);
-    }
-    end
-}
-
-fn put_number(out: &mut [u8], at: usize, n: usize) -> usize
-    requires { at < 2 ^ 62 }
-    ensures puts { Puts out.old out.new at result (decimal n) }
-    ensures short { result ≤ at + 20 }
-{
-    if n < 10 {
-        return put_byte(out, at, n as u8 + 48);
-    }
-    let end = put_number(out, at, n / 10);
-    put_byte(out, end, (n % 10) as u8 + 48)
-}
-
-fn put_numbers(out: &mut [u8], at: usize, ns: &[usize]) -> usize
-    requires room { at < 2 ^ 61 }
-    requires few { length ns.now ≤ 1024 }
-    ensures puts { Puts out.old out.new at result (numbers ns.now) }
-    ensures short { result ≤ at + 21 * length ns.now }
-{
-    let mut end = at;
-    for n in ns {
-        let next = put_byte(out, end, b' ');
-        end = put_number(out, next, *n);
-    }
-    end
-}
-
-fn put_line(out: &mut [u8], at: usize, word: &[u8], ns: &[usize]) -> usize
-    requires room { at < 2 ^ 60 }
-    requires word { length word.now ≤ 16 }
-    requires few { length ns.now ≤ 1024 }
-    ensures puts { Puts out.old out.new at result (line word.now ns.now) }
-    ensures short { result ≤ at + 17 + 21 * length ns.now }
-{
-    let after_word = put(out, at, word);
-    let after_numbers = put_numbers(out, after_word, ns);
-    put_byte(out, after_numbers, b'\n')
-}
-
-// The lines field, form and cells; the answer is the length of the whole text.
-pub fn write_report(out: &mut [u8], order: usize, form: usize, cells: &ByDegree) -> usize
-    ensures place { result ≡ length (report_text order form (listed cells.now)) }
+// Writes the report as far as the buffer goes; the answer is the length of the whole text. The order and the form are
+// numbers here: of a type, only its number would be printed.
+pub fn write_report(out: &mut [u8], order: usize, form: usize, cells: &ArrayVec<usize, 9>) -> usize
+    ensures place { result ≡ length (report_text order form cells.now.items) }
     ensures bytes { out.new ≡ overlay out.old
-        (report_text order form (listed cells.now)) }
+        (report_text order form cells.now.items) }
 {
-    let after_field = put_line(out, 0, b"field", &[order]);
-    let after_form = put_line(out, after_field, b"form", &[form]);
-    put_line(out, after_form, b"cells", cells.listed())
+    let mut pen = Pen { out, at: 0 };
+    let counts = cells.as_slice();
+    pen.put_report(order, form, counts);
+    pen.at
 }

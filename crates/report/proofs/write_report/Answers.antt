@@ -1,12 +1,10 @@
-use Rattle.std.proofs.Common.{ℕ, List, codes, ap}
-use Rattle.report.specs.Lines.{line}
-use Rattle.report.proofs.Overlays.{overlay_puts, puts_as, puts_then}
+use Rattle.std.proofs.Common.{rules}
+use Rattle.report.proofs.Overlays.{overlay_puts}
+use Rattle.report.proofs.Pieces.{report_fits}
 use Rattle.report.proofs.write_report.Goals as goal
 
+pub put_report-requires : goal.put_report-requires
+put_report-requires c = search (rules, report_fits)
+
 pub returns : goal.returns
-returns c =
-    let cells = puts_as (ap (λ (ns : List ℕ). line (codes "cells") ns) c.listed.ensures.is)
-    c.put_line.ensures.puts in
-    let all = overlay_puts (puts_then c.put_line-after_field.ensures.puts
-    (puts_then c.put_line-after_form.ensures.puts cells)) in
-    record { place = all.0; bytes = all.1 }
+returns c = let all = overlay_puts c.put_report.ensures.puts in search rules
