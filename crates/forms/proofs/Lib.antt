@@ -1,4 +1,3 @@
 pub mod Counting
 pub mod Accepting
-pub mod Testing
 pub mod Refusing

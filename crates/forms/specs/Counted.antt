@@ -7,11 +7,12 @@ use Rattle.index.specs.declared.LeafFault.{LeafFault}
 use Rattle.index.specs.Test.{and_then, list_test}
 use Rattle.complex.specs.declared.fault.PileFault.{PileFault}
 use Rattle.maps.specs.InclusionTest.{inclusion_test}
-use Rattle.reader.specs.declared.fault.JobFault.{JobFault}
-use Rattle.reader.specs.declared.fault.JobFault.TheVariants.{Leaf, Pile}
-use Rattle.forms.specs.declared.form.Form.{Form}
-use Rattle.forms.specs.declared.form.Form.TheVariants.{Block, PadCone, PadConeDual}
-use Rattle.forms.specs.declared.form.Form.TheVariants.{Drawing, DrawingTensorBlock, BlockCone}
+use Rattle.reader.specs.declared.order.FieldOrder.{FieldOrder}
+use Rattle.reader.specs.declared.question.Form.{Form}
+use Rattle.reader.specs.declared.question.Form.TheVariants.{Block, PadCone, PadConeDual}
+use Rattle.reader.specs.declared.question.Form.TheVariants.{Drawing, DrawingTensorBlock, BlockCone}
+use Rattle.forms.specs.declared.fault.FormFault.{FormFault}
+use Rattle.forms.specs.declared.fault.FormFault.TheVariants.{Leaf, Pile}
 use Rattle.forms.specs.Counts.{measured}
 use Rattle.forms.specs.Fields.{codes_of}
 use Rattle.forms.specs.Forms.{Lists, complex_of}
@@ -34,10 +35,11 @@ map_test BlockCone l = Ok tt
 abbrev pub piled : Codes → Form → Lists → Result (List ℕ) PileFault
 piled f form l = elim (map_test form l) [ Ok _ ↦ measured (complex_of f form l) | Err e ↦ Err e ]
 
-abbrev pub as_pile : {X : Type 0} → Result X PileFault → Result X JobFault
+-- the fault of a layer is one of the form
+abbrev pub as_pile : {X : Type 0} → Result X PileFault → Result X FormFault
 as_pile (Ok x) = Ok x
 as_pile (Err e) = Err (Pile e)
 
 -- the same of lists that are not tested yet, over the field of an order
-abbrev pub counted : ℕ → Form → Lists → Result (List ℕ) JobFault
+abbrev pub counted : FieldOrder → Form → Lists → Result (List ℕ) FormFault
 counted q form l = elim (lists_test l) [ Ok _ ↦ as_pile (piled (codes_of q) form l) | Err e ↦ Err (Leaf e) ]

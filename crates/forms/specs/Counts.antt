@@ -4,8 +4,6 @@ use Rattle.std.specs.List.{range_with_len}
 use Rattle.linear.specs.Complexes.{Meaning}
 use Rattle.complex.specs.Limits.{cells, limits_test}
 use Rattle.complex.specs.declared.fault.PileFault.{PileFault}
-use Rattle.report.specs.Degrees.{listed}
-use Rattle.report.specs.declared.ByDegree.{ByDegree}
 
 -- from degree 0 to the top
 abbrev pub dims : Meaning → List ℕ
@@ -14,8 +12,3 @@ dims m = map m.dim (range_with_len 0 (suc m.top))
 -- of a complex that keeps the limits; of another, which limit it passes first
 abbrev pub measured : Meaning → Result (List ℕ) PileFault
 measured m = elim (limits_test (cells m) m.top) [ Ok _ ↦ Ok (dims m) | Err e ↦ Err e ]
-
--- what the code hands over of it
-abbrev pub listing : {E : Type 0} → Result ByDegree E → Result (List ℕ) E
-listing (Ok n) = Ok (listed n)
-listing (Err e) = Err e

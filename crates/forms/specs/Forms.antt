@@ -1,5 +1,5 @@
 -- The complexes that the forms of a job name.
-use Rattle.std.specs.Prelude.{ℕ, cond, List, ◌==◌}
+use Rattle.std.specs.Prelude.{ℕ, List, Ok, Err}
 use Rattle.field.specs.Codes.{Codes}
 use Rattle.cell.specs.declared.cube.Cube.{Cube}
 use Rattle.cell.specs.declared.simplex.Simplex.{Simplex}
@@ -12,14 +12,14 @@ use Rattle.linear.specs.Scalar.{scalar}
 use Rattle.linear.specs.Tensor.{tensor}
 use Rattle.complex.specs.Leaf.{leaf}
 use Rattle.maps.specs.Inclusion.{inclusion}
-use Rattle.forms.specs.declared.form.Form.{Form}
-use Rattle.forms.specs.declared.form.Form.TheVariants.{Block, PadCone, PadConeDual}
-use Rattle.forms.specs.declared.form.Form.TheVariants.{Drawing, DrawingTensorBlock, BlockCone}
+use Rattle.reader.specs.declared.question.Form.{Form}
+use Rattle.reader.specs.declared.question.Form.TheVariants.{Block, PadCone, PadConeDual}
+use Rattle.reader.specs.declared.question.Form.TheVariants.{Drawing, DrawingTensorBlock, BlockCone}
+use Rattle.reader.specs.Named.{form_named}
 
+-- the form of a number; another number than 1 to 6 is taken for the drawing's
 abbrev pub form_of : ℕ → Form
-form_of n =
-    cond (n == 1) Block (cond (n == 2) PadCone (cond (n == 3) PadConeDual
-    (cond (n == 5) DrawingTensorBlock (cond (n == 6) BlockCone Drawing))))
+form_of n = elim (form_named n) [ Ok form ↦ form | Err f ↦ Drawing ]
 
 -- the three lists of a job
 pub record Lists : Type 0 where

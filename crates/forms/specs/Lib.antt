@@ -1,6 +1,10 @@
-pub mod Counts
-pub mod Fields
 pub mod Forms
+pub mod Fields
+pub mod Faults
+pub mod Counts
 pub mod Counted
 pub mod FormLaw
-pub mod Viewed
+pub mod Held
+pub mod Tested
+pub mod Steps
+pub mod OneWay
