@@ -1,36 +1,37 @@
 -- The verdict on a job, by what is read of it and what is counted of that.
-use Rattle.std.proofs.Common.{◌≡◌, ℕ, List, Ok, Err, Result, sym, ap, ◌∙◌}
-use Rattle.reader.specs.declared.fault.JobFault.{JobFault}
-use Rattle.reader.specs.declared.turn.Progress.{Progress}
+use Rattle.std.proofs.Common.{◌≡◌, ℕ, List, Ok, Err, Result, IfOk, rules, refl, ap, ◌∙◌}
+use Rattle.forms.specs.declared.fault.FormFault.{FormFault}
+use Rattle.reader.specs.declared.fault.ReadFault.{ReadFault}
 use Rattle.reader.specs.Reading.{read_job, then}
 use Rattle.reader.specs.Sheets.{Contents}
-use Rattle.report.specs.Lines.{report_text}
-use Rattle.job.specs.Jobs.{cells_of, verdict}
+use Rattle.job.specs.declared.fault.JobFault.{JobFault}
+use Rattle.job.specs.declared.fault.JobFault.TheVariants.{Read, Form}
+use Rattle.job.specs.JobLaw.{Reported}
+use Rattle.job.specs.Jobs.{as_form, as_read, cells_of, fitting, text_of, verdict}
 
--- the verdict on a job that is not read, on one with a list or a layer that is refused, and on one with a report
-abbrev pub reporting : Contents → Result (List ℕ) JobFault → Result (List ℕ) JobFault
-reporting k r = then r (λ cells. Ok (report_text k.progress.order k.progress.asked.0 cells))
+-- after the reading, and after the counting
+abbrev pub counted_so : Contents → Result (List ℕ) FormFault → Result (List ℕ) JobFault
+counted_so k r = then (as_form r) (λ counts. Ok (text_of k counts))
 
-abbrev pub going : Result Contents JobFault → Result (List ℕ) JobFault
-going r = then r (λ k. reporting k (cells_of k))
+abbrev pub read_so : Result Contents ReadFault → Result (List ℕ) JobFault
+read_so r = then (as_read r) (λ k. counted_so k (cells_of k))
 
 module _ (job : List ℕ) where
-  pub verdict_unread : (e : JobFault) → read_job job ≡ Err e → verdict job ≡ Err e
+  pub verdict_is : verdict job ≡ read_so (read_job job)
   unfolding verdict
-  verdict_unread e is = ap going is
+  verdict_is = refl
 
-  pub verdict_refused : (k : Contents) (e : JobFault) → read_job job ≡ Ok k → Err e ≡ cells_of k → verdict job ≡ Err e
-  unfolding verdict
-  verdict_refused k e is refused = ap going is ∙ ap (reporting k) (sym refused)
+  pub verdict_unread : (e : ReadFault) → read_job job ≡ Err e → verdict job ≡ Err (Read e)
+  verdict_unread e is = verdict_is ∙ ap read_so is
 
-  verdict_reported : (k : Contents) (cells : List ℕ) → read_job job ≡ Ok k → Ok cells ≡ cells_of k →
-      verdict job ≡ Ok (report_text k.progress.order k.progress.asked.0 cells)
-  unfolding verdict
-  verdict_reported k cells is accepted = ap going is ∙ ap (reporting k) (sym accepted)
+  module _ (k : Contents) (read : read_job job ≡ Ok k) where
+    pub verdict_refused : (e : FormFault) → cells_of k ≡ Err e → verdict job ≡ Err (Form e)
+    verdict_refused e is = verdict_is ∙ ap read_so read ∙ ap (counted_so k) is
 
-  -- the same, where the code holds the field and the form
-  pub verdict_held : (k : Contents) (p : Progress) (cells : List ℕ) → read_job job ≡ Ok k → p ≡ k.progress →
-      Ok cells ≡ cells_of k → verdict job ≡ Ok (report_text p.order p.asked.0 cells)
-  verdict_held k p cells is same accepted =
-      verdict_reported k cells is accepted
-      ∙ ap (λ (q : Progress). Ok (report_text q.order q.asked.0 cells)) (sym same)
+    pub verdict_counted : (counts : List ℕ) → cells_of k ≡ Ok counts → verdict job ≡ Ok (text_of k counts)
+    verdict_counted counts is = verdict_is ∙ ap read_so read ∙ ap (counted_so k) is
+
+-- a length for which there is room is that of a report
+pub fits_reported :
+    (job : List ℕ) (room n : ℕ) (r : Result ℕ JobFault) → r ≡ fitting room n → Reported job n → IfOk r (Reported job)
+fits_reported job room n r is good = search rules

@@ -1,4 +1,3 @@
-pub mod Accepting
 pub mod Answering
 pub mod Counting
 pub mod Refusing

@@ -2,45 +2,48 @@
 #![tactic(auto)]
 
 ghost use Rattle.std.specs.Prelude.{◌≡◌, length, replicate, IfOk};
-ghost use Rattle.forms.specs.Counts.{listing};
 ghost use Rattle.forms.specs.FormLaw.{Accepted};
-ghost use Rattle.forms.specs.Forms.{form_of};
+ghost use Rattle.forms.specs.Held.{listing};
 ghost use Rattle.reader.specs.Sheets.{Contents, Shows};
 ghost use Rattle.report.specs.Buffers.{overlay};
-ghost use Rattle.report.specs.Degrees.{listed};
-ghost use Rattle.report.specs.Lines.{report_text};
 ghost use Rattle.job.specs.JobLaw.{OnlyTooMany, Reported};
-ghost use Rattle.job.specs.Jobs.{answer, cells_of, fitting, lists_of, verdict, written};
+ghost use Rattle.job.specs.Jobs.{answer, cells_of, fitting, lists_of, text_of, verdict, written};
 
+pub mod fault;
+
+use arrayvec::ArrayVec;
+use fault::JobFault;
 use forms::count_cells;
-use forms::form::form_of;
+use forms::fault::FormFault;
+use forms::job_lists::JobLists;
 use lists::block::block_of;
-use reader::fault::JobFault;
 use reader::read::read;
 use reader::sheet::Sheet;
-use reader::turn::Progress;
-use report::{ByDegree, write_report};
+use report::write_report;
 
 // The cells of each degree of the complex that the form names.
-fn counts_of(sheet: &Sheet) -> Result<ByDegree, JobFault>
+fn counts_of(sheet: &Sheet) -> Result<ArrayVec<usize, 9>, FormFault>
     ensures is { (k : Contents) → Shows sheet.now k → listing result ≡ cells_of k }
     ensures law { (k : Contents) → Shows sheet.now k →
-        IfOk result (λ n. Accepted (form_of k.progress.asked.0) (lists_of k) (listed n)) }
+        IfOk result (λ n. Accepted k.question.form (lists_of k) n.items) }
 {
-    let block = block_of(&sheet.filled);
-    let pads = block_of(&sheet.pads);
-    let form = form_of(sheet.progress.asked.0);
-    count_cells(sheet.progress.order, form, &block, &pads, &sheet.drawing)
+    let lists = JobLists {
+        block: &block_of(&sheet.filled),
+        pads: &block_of(&sheet.pads),
+        drawing: &sheet.drawing,
+    };
+    count_cells(sheet.order, sheet.question.form, &lists)
 }
 
-fn write_lines(report: &mut [u8], progress: Progress, cells: &ByDegree) -> usize
-    ensures place { result ≡ length
-        (report_text progress.order progress.asked.0 (listed cells.now)) }
-    ensures bytes { report.new ≡ overlay report.old
-        (report_text progress.order progress.asked.0 (listed cells.now)) }
+fn write_lines(report: &mut [u8], sheet: &Sheet, counts: &ArrayVec<usize, 9>) -> usize
+    ensures place { (k : Contents) → Shows sheet.now k →
+        result ≡ length (text_of k counts.now.items) }
+    ensures bytes { (k : Contents) → Shows sheet.now k →
+        report.new ≡ overlay report.old (text_of k counts.now.items) }
 {
-    let (form, _) = progress.asked;
-    write_report(report, progress.order as usize, form as usize, cells)
+    let order = u16::from(sheet.order);
+    let form = u8::from(sheet.question.form);
+    write_report(report, order as usize, form as usize, counts)
 }
 
 // The length of a report, if there is room for it.
@@ -62,18 +65,10 @@ fn answer_job(input: &[u8], report: &mut [u8]) -> Result<usize, JobFault>
     ensures layers { OnlyTooMany result }
 {
     let sheet = read(input)?;
-    let cells = counts_of(&sheet)?;
+    let counts = counts_of(&sheet)?;
     let room = report.len();
-    let length = write_lines(report, sheet.progress, &cells);
+    let length = write_lines(report, &sheet, &counts);
     fit(length, room)
-}
-
-fn clear(table: &mut [u8])
-    ensures { table.new ≡ replicate (length table.old) 0 }
-{
-    for byte in table.iter_mut() {
-        *byte = 0;
-    }
 }
 
 // Answers a job: the length of the report that now stands at the front of the report buffer, or the first fault.
@@ -85,6 +80,6 @@ pub fn job(input: &[u8], table: &mut [u8], report: &mut [u8]) -> Result<usize, J
     ensures layers { OnlyTooMany result }
 {
     let answer = answer_job(input, report);
-    clear(table);
+    table.fill(0);
     answer
 }

@@ -1,12 +1,13 @@
 // Reads a job on standard input, and prints its report or one line that refuses it.
 #![tactic(auto)]
 
+use reader::fault::LONGEST_JOB;
 use refusal::Fault;
 use std::io::{Read, Write};
 use std::process::ExitCode;
 
 // One byte more than the longest job: enough to tell that a job is too long.
-const READ_AT_MOST: u64 = 16385;
+const READ_AT_MOST: u64 = LONGEST_JOB as u64 + 1;
 
 // The size of the table buffer and of the report buffer.
 const BUFFER: usize = 65536;
