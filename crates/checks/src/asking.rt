@@ -1,6 +1,6 @@
 // Asks the job call, and looks at both buffers afterwards.
 use job::job;
-use refusal::{Fault, Layer, Refusal};
+use refusal::{Fault, Refusal};
 use std::process::Abort;
 use std::test::Fail;
 
@@ -57,7 +57,7 @@ pub(crate) fn check_report(rt: &impl Abort, input: &[u8], text: &[u8]) -> Result
 }
 
 // The job is refused, the report buffer is untouched, and the table buffer is clear.
-fn check_refused(rt: &impl Abort, input: &[u8], want: Refusal) -> Result<(), Fail> {
+pub(crate) fn check_refused(rt: &impl Abort, input: &[u8], want: Refusal) -> Result<(), Fail> {
     let mut table = [BEFORE; 100];
     let mut report = [BEFORE; 64];
     match job(input, &mut table, &mut report) {
@@ -66,55 +66,4 @@ fn check_refused(rt: &impl Abort, input: &[u8], want: Refusal) -> Result<(), Fai
     }
     check_filled(rt, &table, 0, input)?;
     check_filled(rt, &report, BEFORE, input)
-}
-
-pub(crate) fn check_refused_by_job(
-    rt: &impl Abort,
-    input: &[u8],
-    number: u8,
-    place: usize,
-) -> Result<(), Fail> {
-    check_refused(
-        rt,
-        input,
-        Refusal {
-            number,
-            layer: Layer::Job,
-            place,
-        },
-    )
-}
-
-pub(crate) fn check_refused_by_leaf(
-    rt: &impl Abort,
-    input: &[u8],
-    number: u8,
-    place: usize,
-) -> Result<(), Fail> {
-    check_refused(
-        rt,
-        input,
-        Refusal {
-            number,
-            layer: Layer::Leaf,
-            place,
-        },
-    )
-}
-
-pub(crate) fn check_refused_by_pile(
-    rt: &impl Abort,
-    input: &[u8],
-    number: u8,
-    place: usize,
-) -> Result<(), Fail> {
-    check_refused(
-        rt,
-        input,
-        Refusal {
-            number,
-            layer: Layer::Pile,
-            place,
-        },
-    )
 }

@@ -30,23 +30,9 @@ static OF_TETRAHEDRON: [Option<Signed>; 5] = [
     None,
 ];
 
-fn is_plus(sign: Sign) -> bool {
-    match sign {
-        Sign::Plus => true,
-        Sign::Minus => false,
-    }
-}
-
 fn cube_face(c: &Cube, f: usize) -> Option<Signed> {
-    match c.face(f) {
-        Some(
-            Face {
-                cell: Cube { x, y, z },
-                sign,
-            },
-        ) => Some((x, y, z, is_plus(sign))),
-        None => None,
-    }
+    let Face { cell, sign } = c.face(f)?;
+    Some((cell.x, cell.y, cell.z, matches!(sign, Sign::Plus)))
 }
 
 #[test]
@@ -63,7 +49,7 @@ fn triangle_face(s: &Simplex, f: usize) -> Option<Signed> {
                 cell: Simplex::Triangle(a, b, c),
                 sign,
             },
-        ) => Some((a, b, c, is_plus(sign))),
+        ) => Some((a, b, c, matches!(sign, Sign::Plus))),
         _ => None,
     }
 }
@@ -125,10 +111,7 @@ static FAULTY: [(&'static [Cube], u8, usize); 8] = [
 
 // How a list is refused, if it is.
 fn list_refusal<K: Cell>(cells: &[K]) -> Option<Refusal> {
-    match check_list(cells) {
-        Ok(()) => None,
-        Err(fault) => Some(fault.refusal()),
-    }
+    Some(check_list(cells).err()?.refusal())
 }
 
 #[test]
@@ -136,22 +119,11 @@ fn faulty_lists_are_refused(rt: HostRuntime) {
     for (cells, number, place) in FAULTY.iter() {
         assert_eq!(rt;
             list_refusal(cells),
-            Some(Refusal {
-                number: *number,
-                layer: Layer::Leaf,
-                place: *place
-            })
+            Some(Layer::Leaf.refuses(*number, *place))
         );
     }
     let many = [Cube { x: 17, y: 0, z: 0 }; 1025];
-    assert_eq!(rt;
-        list_refusal(&many),
-        Some(Refusal {
-            number: 8,
-            layer: Layer::Leaf,
-            place: 1024
-        })
-    );
+    assert_eq!(rt; list_refusal(&many), Some(Layer::Leaf.refuses(8, 1024)));
 }
 
 // Where a cube stands in the segment.

@@ -3,7 +3,7 @@ use crate::cells::SEGMENT;
 use cell::{Cell, Simplex};
 use complex::Complex;
 use complex::leaf::Leaf;
-use field::{Field, Prime, Three, TwoFiftyOne};
+use field::{Field, Prime};
 use index::{FaceIndex, check_list};
 use std::process::Abort;
 
@@ -55,10 +55,8 @@ fn entry_of<K: Cell, F: Field + Copy>(
     field: F,
     (k, i, j): (usize, usize, usize),
 ) -> Option<u8> {
-    match check_list(cells) {
-        Ok(()) => Some(Leaf::new(FaceIndex::over(cells), field).entry(k, i, j)),
-        Err(_) => None,
-    }
+    check_list(cells).ok()?;
+    Some(Leaf::new(FaceIndex::over(cells), field).entry(k, i, j))
 }
 
 fn check_entries<K: Cell, F: Field + Copy>(rt: &impl Abort, cells: &[K], field: F, rows: &[Row]) {
@@ -69,13 +67,6 @@ fn check_entries<K: Cell, F: Field + Copy>(rt: &impl Abort, cells: &[K], field: 
 
 #[test]
 fn boundaries_have_the_signs_of_the_faces(rt: HostRuntime) {
-    check_entries(&rt, &DISC, Prime { marker: Three }, &OF_DISC);
-    check_entries(
-        &rt,
-        &SEGMENT,
-        Prime {
-            marker: TwoFiftyOne,
-        },
-        &OF_SEGMENT,
-    );
+    check_entries(&rt, &DISC, Prime::<3>, &OF_DISC);
+    check_entries(&rt, &SEGMENT, Prime::<251>, &OF_SEGMENT);
 }

@@ -1,5 +1,5 @@
 // Sums, products and inverses of the fields.
-use field::{Field, Five, Prime, Seven, Three, Two, TwoFiftyOne};
+use field::{Field, Prime};
 use field256::Field256;
 use std::process::Abort;
 
@@ -85,18 +85,11 @@ fn check_field<F: Field>(rt: &impl Abort, field: &F, order: u16, rows: &[Row]) {
 
 #[test]
 fn prime_fields_calculate_modulo_their_orders(rt: HostRuntime) {
-    check_field(&rt, &Prime { marker: Two }, 2, &OF_2);
-    check_field(&rt, &Prime { marker: Three }, 3, &OF_3);
-    check_field(&rt, &Prime { marker: Five }, 5, &OF_5);
-    check_field(&rt, &Prime { marker: Seven }, 7, &OF_7);
-    check_field(
-        &rt,
-        &Prime {
-            marker: TwoFiftyOne,
-        },
-        251,
-        &OF_251,
-    );
+    check_field(&rt, &Prime::<2>, 2, &OF_2);
+    check_field(&rt, &Prime::<3>, 3, &OF_3);
+    check_field(&rt, &Prime::<5>, 5, &OF_5);
+    check_field(&rt, &Prime::<7>, 7, &OF_7);
+    check_field(&rt, &Prime::<251>, 251, &OF_251);
 }
 
 #[test]

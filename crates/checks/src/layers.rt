@@ -3,7 +3,7 @@ use cell::{Cell, Simplex};
 use complex::Complex;
 use complex::dual::Dual;
 use complex::leaf::Leaf;
-use field::{Prime, Three};
+use field::Prime;
 use index::{FaceIndex, Index, check_list};
 use maps::ChainMap;
 use maps::cone::{Cone, check_cone};
@@ -17,7 +17,7 @@ use tensor::{Tensor, check_tensor};
 pub(crate) type Entry = (usize, usize, usize, u8);
 
 // The field of 3, where -1 is 2.
-pub(crate) const FIELD: Prime<Three> = Prime { marker: Three };
+pub(crate) const FIELD: Prime<3> = Prime::<3>;
 
 pub(crate) static EDGE: [Simplex; 3] = [
     Simplex::Vertex(0),
@@ -65,12 +65,10 @@ static OF_DUAL: [Entry; 7] = [
 ];
 
 pub(crate) fn listed_entry(entries: &[Entry], at: (usize, usize, usize)) -> u8 {
-    for (k, i, j, code) in entries {
-        if (*k, *i, *j) == at {
-            return *code;
-        }
-    }
-    0
+    entries
+        .iter()
+        .find(|(k, i, j, _)| (*k, *i, *j) == at)
+        .map_or(0, |(_, _, _, code)| *code)
 }
 
 // The top, the dimensions up to degree 11, and all entries of the degrees up to 11 in rows and columns up to 7: those
@@ -80,12 +78,12 @@ fn check_complex<C: Complex>(rt: &impl Abort, c: &C, top: usize, dims: &[usize],
 {
     assert_eq!(rt; c.top(), top);
     for k in 0..12 {
-        let want = if k < dims.len() { dims[k] } else { 0 };
-        assert_eq!(rt; c.dim(k), want);
-    }
-    for n in 0..768 {
-        let (k, i, j) = (n / 64, n / 8 % 8, n % 8);
-        assert_eq!(rt; c.entry(k, i, j), listed_entry(entries, (k, i, j)));
+        assert_eq!(rt; c.dim(k), dims.get(k).copied().unwrap_or(0));
+        for i in 0..8 {
+            for j in 0..8 {
+                assert_eq!(rt; c.entry(k, i, j), listed_entry(entries, (k, i, j)));
+            }
+        }
     }
     assert_eq!(rt; c.dim(usize::MAX), 0);
     assert_eq!(rt; c.entry(usize::MAX, 0, 0), 0);

@@ -1,5 +1,6 @@
 // Both sides of each limit.
 use crate::asking::*;
+use refusal::Layer;
 use std::alloc::{AllocError, Global};
 use std::test::Fail;
 
@@ -44,7 +45,7 @@ fn block_of_1024_cubes_has_a_report(rt: HostRuntime) -> Result<(), Fail> {
 fn block_of_1025_cubes_is_refused(rt: HostRuntime) -> Result<(), Fail> {
     for (end, number, place) in ENDS.iter() {
         let input = join(rt.alloc(), &VOXELS, end)?;
-        check_refused_by_leaf(&rt, input.as_slice(), *number, *place)?;
+        check_refused(&rt, input.as_slice(), Layer::Leaf.refuses(*number, *place))?;
     }
     Ok(())
 }
@@ -71,7 +72,7 @@ static CONE_OF_ONE_MORE: [u8; 153] = [
 #[test]
 fn cone_of_1024_cells_has_a_report_and_one_of_1025_is_refused(rt: HostRuntime) -> Result<(), Fail> {
     check_report(&rt, &CONE, b"field 2\nform 2\ncells 294 452 234 43 1\n")?;
-    check_refused_by_pile(&rt, &CONE_OF_ONE_MORE, 8, 1024)
+    check_refused(&rt, &CONE_OF_ONE_MORE, Layer::Pile.refuses(8, 1024))
 }
 
 // Four voxels with 108 cubes: nine vertices give 972 pairs, and ten give 1,080.
@@ -85,21 +86,24 @@ fn tensor_of_1080_cells_is_refused(rt: HostRuntime) -> Result<(), Fail> {
         ],
         b"field 2\nform 5\ncells 288 432 216 36 0 0 0\n",
     )?;
-    check_refused_by_pile(
+    check_refused(
         &rt,
         &[
             F, 2, V, 0, 0, 0, V, 2, 0, 0, V, 4, 0, 0, V, 6, 0, 0, A, 0, A, 1, A, 2, A, 3, A, 4, A,
             5, A, 6, A, 7, A, 8, A, 9, Q, 5, 0,
         ],
-        8,
-        1024,
+        Layer::Pile.refuses(8, 1024),
     )
 }
 
 // A record of each of the 8 by 8 by 8 voxels.
 fn push_voxels(input: &mut Vec<u8>, kind: u8) -> Result<(), AllocError> {
-    for n in 0..512u16 {
-        input.extend_from_slice(&[kind, (n % 8) as u8, (n / 8 % 8) as u8, (n / 64) as u8])?;
+    for z in 0..8u8 {
+        for y in 0..8u8 {
+            for x in 0..8u8 {
+                input.extend_from_slice(&[kind, x, y, z])?;
+            }
+        }
     }
     Ok(())
 }
@@ -109,7 +113,7 @@ fn whole_grid_is_refused(rt: HostRuntime) -> Result<(), Fail> {
     let mut input = join(rt.alloc(), &[F, 2], &[])?;
     push_voxels(&mut input, P)?;
     input.extend_from_slice(&[Q, 4, 0])?;
-    check_refused_by_leaf(&rt, input.as_slice(), 8, 1024)
+    check_refused(&rt, input.as_slice(), Layer::Leaf.refuses(8, 1024))
 }
 
 static VERTICES: [u8; 130] = [
@@ -123,10 +127,11 @@ static VERTICES: [u8; 130] = [
 // A record of each of the first edges between the 64 vertices.
 fn push_edges(input: &mut Vec<u8>, edges: usize) -> Result<(), AllocError> {
     let mut left = edges;
-    for n in 0..4096u16 {
-        let a = (n / 64) as u8;
-        let b = (n % 64) as u8;
-        if a < b && left > 0 {
+    for a in 0..64u8 {
+        for b in a + 1..64 {
+            if left == 0 {
+                return Ok(());
+            }
             input.extend_from_slice(&[B, a, b])?;
             left -= 1;
         }
@@ -151,15 +156,16 @@ fn drawing_of_1025_cells_is_refused_after_its_records(rt: HostRuntime) -> Result
     let mut input = join(rt.alloc(), &VERTICES, &[])?;
     push_edges(&mut input, 961)?;
     input.extend_from_slice(&[Q, 4, 0])?;
-    check_refused_by_leaf(&rt, input.as_slice(), 8, 1024)?;
+    check_refused(&rt, input.as_slice(), Layer::Leaf.refuses(8, 1024))?;
     input.push(F)?;
-    check_refused_by_job(&rt, input.as_slice(), 3, 3016)
+    check_refused(&rt, input.as_slice(), Layer::Job.refuses(3, 3016))
 }
 
 // A Z record of each cell number below the count.
 fn push_terms(input: &mut Vec<u8>, count: u16) -> Result<(), AllocError> {
     for n in 0..count {
-        input.extend_from_slice(&[Z, (n / 256) as u8, (n % 256) as u8, 1])?;
+        let [high, low] = n.to_be_bytes();
+        input.extend_from_slice(&[Z, high, low, 1])?;
     }
     Ok(())
 }
@@ -171,5 +177,5 @@ fn job_of_16384_bytes_passes_and_one_more_is_refused(rt: HostRuntime) -> Result<
     assert_eq!(rt; input.len(), 16384);
     check_report(&rt, input.as_slice(), b"field 2\nform 4\ncells 2 1 0 0\n")?;
     input.push(0)?;
-    check_refused_by_job(&rt, input.as_slice(), 1, 16384)
+    check_refused(&rt, input.as_slice(), Layer::Job.refuses(1, 16384))
 }

@@ -1,5 +1,6 @@
 // Jobs that are refused.
 use crate::asking::*;
+use refusal::Layer;
 use std::test::Fail;
 
 // The number and the place of each refusal by the job.
@@ -71,7 +72,7 @@ static FAULTY: [(&'static [u8], u8, usize); 89] = [
     (&[F, 2, B, 1, 1], 4, 2),
     (&[F, 2, C, 0, 2, 1], 4, 2),
     (&[F, 2, D, 0, 0, 1, 2], 4, 2),
-    // forms, degrees and coefficients out of range; forms 2, 3, 5 and 6 are not built
+    // forms, degrees and coefficients out of range
     (&[F, 2, Q, 0, 0], 4, 2),
     (&[F, 2, Q, 7, 0], 4, 2),
     (&[F, 2, Q, 255, 0], 4, 2),
@@ -133,7 +134,7 @@ static OPEN: [(&'static [u8], usize); 7] = [
 #[test]
 fn faulty_records_are_refused(rt: HostRuntime) -> Result<(), Fail> {
     for (input, number, place) in FAULTY.iter() {
-        check_refused_by_job(&rt, input, *number, *place)?;
+        check_refused(&rt, input, Layer::Job.refuses(*number, *place))?;
     }
     Ok(())
 }
@@ -141,7 +142,7 @@ fn faulty_records_are_refused(rt: HostRuntime) -> Result<(), Fail> {
 #[test]
 fn open_drawings_are_refused(rt: HostRuntime) -> Result<(), Fail> {
     for (input, cell) in OPEN.iter() {
-        check_refused_by_leaf(&rt, input, 7, *cell)?;
+        check_refused(&rt, input, Layer::Leaf.refuses(7, *cell))?;
     }
     Ok(())
 }
@@ -151,7 +152,7 @@ fn every_other_field_byte_is_out_of_range(rt: HostRuntime) -> Result<(), Fail> {
     let mut refused: usize = 0;
     for byte in 0..=255u8 {
         if !matches!(byte, 0 | 2 | 3 | 5 | 7 | 251) {
-            check_refused_by_job(&rt, &[F, byte, Q, 1, 0], 4, 0)?;
+            check_refused(&rt, &[F, byte, Q, 1, 0], Layer::Job.refuses(4, 0))?;
             refused = refused.saturating_add(1);
         }
     }
@@ -163,7 +164,7 @@ fn every_other_field_byte_is_out_of_range(rt: HostRuntime) -> Result<(), Fail> {
 fn every_other_kind_is_unknown(rt: HostRuntime) -> Result<(), Fail> {
     for kind in 0..=255u8 {
         if !matches!(kind, F | V | P | A | B | C | D | Q | Z | Y) {
-            check_refused_by_job(&rt, &[F, 2, kind], 2, 2)?;
+            check_refused(&rt, &[F, 2, kind], Layer::Job.refuses(2, 2))?;
         }
     }
     Ok(())

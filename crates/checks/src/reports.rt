@@ -1,7 +1,7 @@
 // Jobs that get a report.
 use crate::asking::*;
 use job::job;
-use refusal::{Fault, Layer, Refusal};
+use refusal::{Fault, Layer};
 use std::process::Abort;
 use std::test::Fail;
 
@@ -206,7 +206,7 @@ fn ring_has_three_vertices_and_three_edges(rt: HostRuntime) -> Result<(), Fail> 
 fn torn_ring_is_refused_at_the_tear(rt: HostRuntime) -> Result<(), Fail> {
     for (length, (number, place)) in TORN.iter().enumerate() {
         let front = RING.get(..length).ok_or("longer than the ring")?;
-        check_refused_by_job(&rt, front, *number, *place)?;
+        check_refused(&rt, front, Layer::Job.refuses(*number, *place))?;
     }
     Ok(())
 }
@@ -232,14 +232,7 @@ fn check_answer(rt: &impl Abort, room: &mut [u8]) -> Result<(), Fail> {
         Ok(n) => assert!(rt; n == 29 && length == 29),
         Err(fault) => {
             assert!(rt; length < 29);
-            assert_eq!(rt;
-                fault.refusal(),
-                Refusal {
-                    number: 18,
-                    layer: Layer::Job,
-                    place: length
-                }
-            );
+            assert_eq!(rt; fault.refusal(), Layer::Job.refuses(18, length));
         }
     }
     check_filled(rt, &table, 0, &RING)?;
