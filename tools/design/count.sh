@@ -9,7 +9,7 @@ count() {
     printf '%4d  %s\n' "$(printf '%s' "$lines" | grep -c '')" "$what"
     if [ "$list" = -l ]; then printf '%s\n' "$lines" | sed 's/^/        /'; fi
 }
-sources() { find crates -path '*/src/*' -name '*.rt' | sort; }
+sources() { find crates/*/src -name '*.rt' | sort; }
 seek() { sources | xargs grep -nE "$@"; }
 
 echo 'point 1: own results, flags, numbers for kinds and refusals'
@@ -24,12 +24,12 @@ duplicates --repo "$copy" --most 60 --min-lines 5 | grep -E '^D[0-9]' | count 'p
 rm -rf "$copy"
 sources | grep -v crates/checks/ | xargs grep -nE '\b(1024|16384|16385)\b' | grep -vE 'requires|ensures|ghost|//' | count 'places of the limits 1,024 and 16,384 in code'
 seek '\b(0|2) \| (2|3) \| 3|^\s+251 =>|TwoFiftyOne\b' | grep -v crates/checks/ | count 'lines that name the fields'
-cat $(find crates -path '*/specs/*.antt' | sort) | grep -cE '^[a-z_]+ (\w+ )*\((Field b|Filled v|Pad v|Drawn s|Question \w+ \w+|First t|Second t)\)|^[a-z]+ group\.' | sed 's/$/  rows of tables over the records or their groups, in specs/; s/^/ /'
+cat crates/*/specs/*.antt | grep -cE '^[a-z_]+ (\w+ )*\((Field b|Filled v|Pad v|Drawn s|Question \w+ \w+|First t|Second t)\)|^[a-z]+ group\.' | sed 's/$/  rows of tables over the records or their groups, in specs/; s/^/ /'
 echo 'point 3: loops'
 seek '^\s*(for|while|loop)\b' | count 'loops'
 seek 'for [a-z]+ in 0\.\.' | count 'of them over a range of numbers'
 seek '^\s*while ' | count 'of them with a condition'
-seek 'else \{ (false|0) \}|^\s+if [a-z]+ < [a-z.]+len\(\)' | count 'tests of an index by hand'
+seek 'else \{ (false|0) \}|^\s+if [a-z.]+ < [a-z.]+len\(\)' | count 'tests of an index by hand'
 echo 'point 4: equality, order, conversion, printing by hand'
 seek 'as u8 [<>=!]+ |[<>=!]+ [a-z_():]+ as u8|Group::[A-Z][a-z]+ as u8' | count 'comparisons of enums as numbers'
 seek '\.rank\(\) *(==|<) |have (==|<) want' | grep -v crates/checks/ | count 'comparisons of cells by rank'
