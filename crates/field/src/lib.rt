@@ -32,22 +32,22 @@ pub trait Field {
     ghost field: { IsField codes };
 }
 
-// The field of the residues by Q. Fields by different numbers are different types.
-#[derive(Clone, Copy)]
-pub struct Prime<const Q: u8>;
-
 // That Q is prime, which a const parameter by itself does not say.
 pub trait Modulus<const Q: u8> {
     ghost prime: { IsPrime Q };
 }
 
-impl<const Q: u8> Field for Prime<Q>
-where
-    Prime<Q>: Modulus<Q>,
-{
+// The field of the residues by Q, where a marker says that Q is prime; its type may lie in any crate.
+// Fields by different numbers are different types.
+#[derive(Clone, Copy)]
+pub struct MarkedPrime<const Q: u8, M> {
+    pub marker: M,
+}
+
+impl<const Q: u8, M: Modulus<Q>> Field for MarkedPrime<Q, M> {
     ghost codes = { residues Q };
 
-    ghost field = { residues_field Q ⟦<Prime<Q> as Modulus<Q>>⟧.prime };
+    ghost field = { residues_field Q M.prime };
 
     fn order(&self) -> u16 {
         Q as u16
@@ -78,6 +78,39 @@ where
             rest = q % rest;
         }
         if rest == 0 { None } else { Some(factor as u8) }
+    }
+}
+
+// The field of the residues by a number that this crate says is prime: it is its own marker.
+#[derive(Clone, Copy)]
+pub struct Prime<const Q: u8>;
+
+impl<const Q: u8> Field for Prime<Q>
+where
+    Prime<Q>: Modulus<Q>,
+{
+    ghost codes = { residues Q };
+
+    ghost field = { residues_field Q ⟦<Prime<Q> as Modulus<Q>>⟧.prime };
+
+    fn order(&self) -> u16 {
+        MarkedPrime::<Q, Self> { marker: *self }.order()
+    }
+
+    fn add(&self, a: u8, b: u8) -> u8 {
+        MarkedPrime::<Q, Self> { marker: *self }.add(a, b)
+    }
+
+    fn negate(&self, a: u8) -> u8 {
+        MarkedPrime::<Q, Self> { marker: *self }.negate(a)
+    }
+
+    fn multiply(&self, a: u8, b: u8) -> u8 {
+        MarkedPrime::<Q, Self> { marker: *self }.multiply(a, b)
+    }
+
+    fn invert(&self, a: u8) -> Option<u8> {
+        MarkedPrime::<Q, Self> { marker: *self }.invert(a)
     }
 }
 

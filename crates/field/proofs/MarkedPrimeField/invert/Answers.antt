@@ -1,11 +1,11 @@
 -- Each turn keeps what is said of the factor and the rest; at the end the rest is 1, or 0 where `a` is.
 use Rattle.std.proofs.Common.{◌≡◌, sym, ◌∙◌, arith}
 use Rattle.field.specs.PrimeResidues.{inversion_more, inverse_found, inverse_absent}
-use Rattle.field.proofs.PrimeField.invert.Goals as goal
+use Rattle.field.proofs.MarkedPrimeField.invert.Goals as goal
 
 pub loop-rest-preserved : goal.loop-rest-preserved
 loop-rest-preserved g c =
-    inversion_more g.row.Q c.args.a c.loop-rest.rest c.loop-rest.factor g.bound-1.prime c.loop-rest-test.true
+    inversion_more g.row.Q c.args.a c.loop-rest.rest c.loop-rest.factor g.M.Modulus.prime c.loop-rest-test.true
     c.loop-rest.invariant.1 c.loop-rest.invariant.2
 
 pub returns-then-rest-eq0 : goal.returns-then-rest-eq0

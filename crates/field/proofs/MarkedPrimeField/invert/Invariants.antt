@@ -1,6 +1,6 @@
 -- A multiple of `a`, by a factor below the modulus, equals the rest; the rest is 0 only where `a` is.
 use Rattle.std.proofs.Common.{◌≡◌, ◌*◌, ◌%◌, ◌<◌}
-use Rattle.field.proofs.PrimeField.invert.Given as goal
+use Rattle.field.proofs.MarkedPrimeField.invert.Given as goal
 
 abbrev pub invariant-loop-rest : goal.invariant-loop-rest
 invariant-loop-rest g l =
