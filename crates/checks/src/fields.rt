@@ -1,5 +1,9 @@
 // Sums, products and inverses of the fields.
-use field::{Field, Prime};
+ghost use Rattle.std.specs.Prelude.{refl};
+ghost use Rattle.std.proofs.Common.{lit≤};
+ghost use Rattle.field.specs.Primes.{prime_by_test};
+
+use field::{Field, MarkedPrime, Modulus, Prime};
 use field256::Field256;
 use std::process::Abort;
 
@@ -35,6 +39,17 @@ static OF_7: [Row; 3] = [
     (255, 254, 5, 4, 6, Some(5)),
 ];
 
+static OF_11: [Row; 8] = [
+    (3, 4, 7, 8, 1, Some(4)),
+    (2, 6, 8, 9, 1, Some(6)),
+    (5, 9, 3, 6, 1, Some(9)),
+    (7, 8, 4, 4, 1, Some(8)),
+    (10, 10, 9, 1, 1, Some(10)),
+    (0, 6, 6, 0, 0, None),
+    (11, 9, 9, 0, 0, None),
+    (255, 254, 3, 9, 2, Some(6)),
+];
+
 static OF_251: [Row; 4] = [
     (250, 250, 249, 1, 1, Some(250)),
     (2, 126, 128, 249, 1, Some(126)),
@@ -54,6 +69,14 @@ static OF_256: [Row; 10] = [
     (83, 202, 153, 83, 143, Some(140)),
     (0, 77, 77, 0, 0, None),
 ];
+
+// A marker of this crate for a prime that `field` has not.
+#[derive(Clone, Copy)]
+struct Eleven;
+
+impl Modulus<11> for Eleven {
+    ghost prime = { prime_by_test 11 (lit≤ tt) (lit≤ tt) refl };
+}
 
 fn check_rows<F: Field>(rt: &impl Abort, field: &F, rows: &[Row]) {
     for (a, b, sum, negative, product, inverse) in rows {
@@ -90,6 +113,12 @@ fn prime_fields_calculate_modulo_their_orders(rt: HostRuntime) {
     check_field(&rt, &Prime::<5>, 5, &OF_5);
     check_field(&rt, &Prime::<7>, 7, &OF_7);
     check_field(&rt, &Prime::<251>, 251, &OF_251);
+}
+
+#[test]
+fn marker_of_another_crate_makes_the_field_of_11(rt: HostRuntime) {
+    let field = MarkedPrime::<11, Eleven> { marker: Eleven };
+    check_field(&rt, &field, 11, &OF_11);
 }
 
 #[test]
