@@ -16,6 +16,8 @@ mod limits;
 #[cfg(test)]
 mod nested;
 #[cfg(test)]
+mod records;
+#[cfg(test)]
 mod refusals;
 #[cfg(test)]
 mod reports;

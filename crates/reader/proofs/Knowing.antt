@@ -102,6 +102,7 @@ known_follow (r ∷ records) k end f known =
 
 -- what the contents have of the notes that they come from
 pub record Completed (k : Notes) (c : Contents) : Type 0 where
+  pub progress : k.progress ≡ c.progress
   pub order : k.progress.order ≡ Some c.order
   pub question : k.progress.asked ≡ Some c.question
   pub filled : k.filled ≡ c.filled
@@ -111,6 +112,7 @@ pub record Completed (k : Notes) (c : Contents) : Type 0 where
 completed_parts : (k : Notes) (c : Contents) (order : Option FieldOrder) (asked : Option question.Question) →
     k.progress.order ≡ order → k.progress.asked ≡ asked → completed_by order asked k ≡ Some c → Completed k c
 completed_parts k c (Some order) (Some asked) o a e = record {
+  progress = cc;
   order = o ∙ (let z : order ≡ c.order = cc in ap Some z);
   question = a ∙ (let z : asked ≡ c.question = cc in ap Some z);
   filled = cc;
@@ -126,6 +128,7 @@ completed_has k c e = completed_parts k c k.progress.order k.progress.asked refl
 pub completed_from : (k : Notes) (order : FieldOrder) (asked : question.Question) → k.progress.order ≡ Some order →
     k.progress.asked ≡ Some asked →
     completed k ≡ Some (record {
+      progress = k.progress;
       order = order;
       question = asked;
       filled = k.filled;

@@ -1,3 +1,4 @@
+pub mod Agreeing
 pub mod Along
 pub mod Bodies
 pub mod DrawnOrder
@@ -10,7 +11,7 @@ pub mod Knowing
 pub mod Mapping
 pub mod Marks
 pub mod Naming
-pub mod Numbers
+pub mod NumbersTold
 pub mod Padding
 pub mod RecordBytes
 pub mod RecordOrder

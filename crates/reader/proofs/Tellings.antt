@@ -9,13 +9,14 @@ use Rattle.index.specs.Closed.{Ascending}
 use Rattle.reader.specs.declared.record.Record.{Record}
 use Rattle.reader.specs.declared.record.Record.TheVariants.{Filled, Pad, Drawn}
 use Rattle.reader.specs.declared.record.Voxel.{Voxel}
+use Rattle.reader.specs.declared.turn.Progress.{Progress}
 use Rattle.reader.specs.JobLaw.{Follows}
 use Rattle.reader.specs.Saying.{drawn_by, filled_by, pads_by, questions_by}
 use Rattle.reader.specs.Telling.{Tells, WellFormed}
 use Rattle.reader.proofs.DrawnOrder.{ascents_follow}
 use Rattle.reader.proofs.GroupOrder.{in_order}
 use Rattle.reader.proofs.Marks.{marked, marked_append, marked_flag}
-use Rattle.reader.proofs.Numbers.{numbers_told, size_told}
+use Rattle.reader.proofs.NumbersTold.{numbers_told, size_told}
 use Rattle.reader.proofs.RecordOrder.{ascend_follow, ranged_follow}
 use Rattle.reader.proofs.Singles.{field_told, question_told}
 use Rattle.reader.proofs.Taking.{Passes, taken_passes}
@@ -131,6 +132,8 @@ module _ (records : List Record) (end : Notes) (f : Follows blank records end) (
   pub tells : Tells records k
   tells = record {
     formed = tells_formed;
+    order_known = ap (λ (p : Progress). p.order) (sym has.progress) ∙ has.order;
+    question_known = ap (λ (p : Progress). p.asked) (sym has.progress) ∙ has.question;
     size = size_told records k.order tells_formed.field;
     question = asked;
     asked = numbers_told records k.question asked;

@@ -5,6 +5,8 @@ pub mod Judging
 pub mod Keys
 pub mod Named
 pub mod Notes
+pub mod Numbers
+pub mod NumbersLaw
 pub mod Reading
 pub mod Records
 pub mod Saying

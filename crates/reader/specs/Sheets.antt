@@ -6,11 +6,13 @@ use Rattle.reader.specs.declared.fault.ReadFault.{ReadFault}
 use Rattle.reader.specs.declared.order.FieldOrder.{FieldOrder}
 use Rattle.reader.specs.declared.question.Question.{Question}
 use Rattle.reader.specs.declared.sheet.Sheet.{Sheet}
+use Rattle.reader.specs.declared.turn.Progress.{Progress}
 use Rattle.reader.specs.Notes.{Notes}
 
--- the field and the question, a flag for each voxel that is filled and for each that is a pad, the one of the voxel
--- (x, y, z) at 64 z + 8 y + x, and the drawn simplices in their order
+-- where the job stands after its last record, the field and the question, a flag for each voxel that is filled and for
+-- each that is a pad, the one of the voxel (x, y, z) at 64 z + 8 y + x, and the drawn simplices in their order
 pub record Contents : Type 0 where
+  pub progress : Progress
   pub order : FieldOrder
   pub question : Question
   pub filled : List Bool
@@ -20,6 +22,7 @@ pub record Contents : Type 0 where
 -- the contents of notes with a field and a question, if both are known
 abbrev pub completed_by : Option FieldOrder → Option Question → Notes → Option Contents
 completed_by (Some order) (Some question) k = Some (record {
+  progress = k.progress;
   order = order;
   question = question;
   filled = k.filled;
@@ -35,6 +38,7 @@ completed k = completed_by k.progress.order k.progress.asked k
 
 -- what the code holds of it
 pub record Shows (s : Sheet) (k : Contents) : Type 0 where
+  pub progress : s.progress ≡ k.progress
   pub order : s.order ≡ k.order
   pub question : s.question ≡ k.question
   pub filled : s.filled ≡ k.filled

@@ -41,6 +41,9 @@ pub record IsFormed (job : List ℕ) : Type 0 where
 -- what such records tell of the contents k
 pub record Tells (records : List Record) (k : Contents) : Type 0 where
   pub formed : WellFormed k.order records
+  -- where the job stands after them, the field and the question are known
+  pub order_known : k.progress.order ≡ Some k.order
+  pub question_known : k.progress.asked ≡ Some k.question
   -- the field has as many elements as the byte of its record gives it
   pub size : flat_map sizes_by records ≡ elements k.order ∷ []
   -- one record asks the question

@@ -90,6 +90,7 @@ impl Draft {
         let order = progress.order?;
         let question = progress.asked?;
         Some(Sheet {
+            progress,
             order,
             question,
             filled,

@@ -3,6 +3,7 @@
 
 mod draft;
 pub mod fault;
+pub mod numbers;
 pub mod order;
 pub mod question;
 pub mod read;

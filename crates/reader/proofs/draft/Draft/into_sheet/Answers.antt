@@ -9,5 +9,12 @@ returns c = λ k h. (
   completed_from k c.in_ok-order.order c.in_ok-question.question
       (ap (λ (p : Progress). p.order) (sym h.progress) ∙ c.in_ok-order.was)
       (ap (λ (p : Progress). p.asked) (sym h.progress) ∙ c.in_ok-question.was),
-  record { order = refl; question = refl; filled = h.filled; pads = h.pads; drawing = h.drawing },
+  record {
+    progress = h.progress;
+    order = refl;
+    question = refl;
+    filled = h.filled;
+    pads = h.pads;
+    drawing = h.drawing;
+  },
 )
