@@ -12,11 +12,7 @@ use Rattle.reader.specs.JobLaw.{Follows}
 use Rattle.reader.specs.Judging.{advanced, started}
 use Rattle.reader.specs.Named.{order_named, question_named}
 use Rattle.reader.specs.Notes.{Notes}
-use Rattle.reader.specs.Sheets.{Contents, Reads, completed, completed_by}
-use Rattle.reader.specs.Steps.{Completes}
-use Rattle.std.specs.Option.{ok_or}
-use Rattle.reader.specs.declared.sheet.Sheet.{Sheet}
-use Rattle.reader.specs.declared.fault.ReadFault.{ReadFault}
+use Rattle.reader.specs.Sheets.{Contents, completed, completed_by}
 use Rattle.reader.specs.Turns.{group_of, place, turns}
 use Rattle.reader.specs.Values.{in_range}
 use Rattle.reader.proofs.Singles.{turn}
@@ -173,8 +169,3 @@ none_completed k None = refl
 pub not_completed : (k : Notes) → k.progress.asked ≡ None → completed k ≡ None
 not_completed k e =
     ap (λ (x : Option question.Question). completed_by k.progress.order x k) e ∙ none_completed k k.progress.order
-
-pub reads_completed : (o : Option Contents) (s : Option Sheet) (e : ReadFault) → Completes o s →
-    Reads (ok_or o e) (ok_or s e)
-reads_completed o (Some sheet) e h = (h.0, ap (λ (x : Option Contents). ok_or x e) h.1, h.2)
-reads_completed o None e h = ap (λ (x : Option Contents). ok_or x e) h

@@ -1,17 +1,15 @@
 -- Words of the private functions: what each step of the reading hands over.
-use Rattle.std.specs.Prelude.{◌≡◌, ℕ, cond, List, [], ◌∷◌, Some, None, Ok, Err, Option, Result, ◌==◌}
+use Rattle.std.specs.Prelude.{◌≡◌, ℕ, cond, List, [], ◌∷◌, Ok, Err, Result, ◌==◌}
 use Rattle.std.specs.Borrow.{Bor}
 use Rattle.lists.specs.Working.{Holds}
 use Rattle.reader.specs.declared.draft.Draft.{Draft}
 use Rattle.reader.specs.declared.record.Flaw.{Flaw}
 use Rattle.reader.specs.declared.record.Flaw.TheVariants.{UnknownKind, CutShort, OutOfRange}
 use Rattle.reader.specs.declared.record.Record.{Record}
-use Rattle.reader.specs.declared.sheet.Sheet.{Sheet}
 use Rattle.reader.specs.declared.turn.Progress.{Progress}
 use Rattle.reader.specs.Judging.{advanced}
 use Rattle.reader.specs.Notes.{Notes, taken}
 use Rattle.reader.specs.Records.{Kind}
-use Rattle.reader.specs.Sheets.{Contents, Shows}
 use Rattle.reader.specs.Values.{in_range}
 
 -- what is wrong where a byte of kind stands and no record: its body is cut short, or it is no kind
@@ -39,8 +37,3 @@ Takes k r d (Err f) = taken k r ≡ Err f
 abbrev pub Steps : Result (Notes × List ℕ) Flaw → Draft → Result (Bor (List ℕ)) Flaw → Type 0
 Steps s d (Ok rest) = (next : Notes) × (s ≡ Ok (next, rest.now)) × Keeps d next
 Steps s d (Err f) = s ≡ Err f
-
--- the sheet that a draft comes to
-abbrev pub Completes : Option Contents → Option Sheet → Type 0
-Completes o (Some sheet) = (k : Contents) × (o ≡ Some k) × Shows sheet k
-Completes o None = o ≡ None

@@ -1,10 +1,11 @@
 // The sheet of a job while it is read.
 ghost use Rattle.std.specs.Prelude.{◌≡◌, true, slice_set};
 ghost use Rattle.reader.specs.Notes.{Notes, blank, noted};
-ghost use Rattle.reader.specs.Reading.{step};
-ghost use Rattle.reader.specs.Sheets.{completed};
-ghost use Rattle.reader.specs.Steps.{Completes, Keeps, Steps, Takes};
+ghost use Rattle.reader.specs.Reading.{finished, step};
+ghost use Rattle.reader.specs.Sheets.{Reads};
+ghost use Rattle.reader.specs.Steps.{Keeps, Steps, Takes};
 
+use crate::fault::ReadFault;
 use crate::record::{Flaw, Record};
 use crate::sheet::Sheet;
 use crate::split::next_record;
@@ -77,9 +78,9 @@ impl Draft {
         Ok(rest)
     }
 
-    // The whole sheet, once the field and the question have been read.
-    pub(crate) fn into_sheet(self) -> Option<Sheet>
-        ensures { (k : Notes) → Keeps self k → Completes (completed k) result }
+    // The whole sheet of a job of this length, if the field and the question have been read.
+    pub(crate) fn into_sheet(self, whole: usize) -> Result<Sheet, ReadFault>
+        ensures { (k : Notes) → Keeps self k → Reads (finished whole k) result }
     {
         let Draft {
             progress,
@@ -87,15 +88,16 @@ impl Draft {
             pads,
             drawing,
         } = self;
-        let order = progress.order?;
-        let question = progress.asked?;
-        Some(Sheet {
-            progress,
-            order,
-            question,
-            filled,
-            pads,
-            drawing,
-        })
+        match (progress.order, progress.asked) {
+            (Some(order), Some(question)) => Ok(Sheet {
+                progress,
+                order,
+                question,
+                filled,
+                pads,
+                drawing,
+            }),
+            _ => Err(ReadFault::Flawed(Flaw::OutOfTurn, whole)),
+        }
     }
 }

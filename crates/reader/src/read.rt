@@ -5,7 +5,6 @@ ghost use Rattle.reader.specs.Sheets.{Reads};
 
 use crate::draft::Draft;
 use crate::fault::{LONGEST_JOB, ReadFault};
-use crate::record::Flaw;
 use crate::sheet::Sheet;
 
 // What a job says, or its first fault.
@@ -24,7 +23,5 @@ pub fn read(job: &[u8]) -> Result<Sheet, ReadFault>
             .step(rest)
             .map_err(|flaw| ReadFault::Flawed(flaw, at))?;
     }
-    draft
-        .into_sheet()
-        .ok_or(ReadFault::Flawed(Flaw::OutOfTurn, job.len()))
+    draft.into_sheet(job.len())
 }

@@ -1,12 +1,9 @@
 use Rattle.std.proofs.Common.{◌≡◌, ◌-◌, length, Err, refl, ◌∙◌, subst, arith, rules}
 use Rattle.std.proofs.lemmas.Result.{err_from_is_err_and}
 use Rattle.reader.specs.declared.fault.ReadFault.TheVariants.{Flawed}
-use Rattle.reader.specs.declared.record.Flaw.TheVariants.{OutOfTurn}
 use Rattle.reader.specs.Notes.{blank}
 use Rattle.reader.specs.Reading.{finished, read_job, step}
-use Rattle.reader.specs.Sheets.{completed}
 use Rattle.reader.specs.Steps.{Steps}
-use Rattle.reader.proofs.Knowing.{reads_completed}
 use Rattle.reader.proofs.JobLaws.{read_law}
 use Rattle.reader.proofs.Mapping.{mapped_err, mapped_ok}
 use Rattle.reader.proofs.Walks.{read_ended, read_job_long, read_job_walk, read_more, read_stopped, some_left}
@@ -70,8 +67,7 @@ returns-clause-is c =
     let walk : read_job c.args.job.now ≡ finished (length c.args.job.now) i.1 =
     read_job_walk c.args.job.now c.if-job-gt-LONGEST_JOB.false ∙ i.5
     ∙ read_ended i.0 (length c.args.job.now) i.1 c.loop-rest.rest.now none in
-    rw (walk, c.ok_or.ensures.value) (reads_completed (completed i.1) c.into_sheet.result
-    (Flawed OutOfTurn (length c.args.job.now)) (c.into_sheet.ensures i.1 i.4))
+    rw walk (c.into_sheet.ensures i.1 i.4)
 
 pub returns-clause-law : goal.returns-clause-law
 returns-clause-law c = read_law c.args.job.now c.type_inv.job
