@@ -1,6 +1,6 @@
 pub mod Ascents
 pub mod Held
-pub mod Search
+pub mod Halves
 pub mod Fits
 pub mod Closing
 pub mod Telling
