@@ -21,10 +21,12 @@ pub fn check_inclusion<I: Index>(smaller: &I, larger: &I) -> Result<(), PileFaul
     ensures law { Ascending I.K.Cell.kind (I.Index.cells larger.now) → TellsInclusion
         I.K.Cell.kind (I.Index.cells smaller.now) (I.Index.cells larger.now) result }
 {
-    for (n, cell) in smaller.as_slice().iter().enumerate() {
-        let Some(_) = larger.find(cell) else {
-            return Err(PileFault::NotIncluded(n));
-        };
+    for n in 0..smaller.len() {
+        if let Some(cell) = smaller.at(n) {
+            let Some(_) = larger.find(&cell) else {
+                return Err(PileFault::NotIncluded(n));
+            };
+        }
     }
     Ok(())
 }

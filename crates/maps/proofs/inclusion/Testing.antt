@@ -1,7 +1,9 @@
 -- What the test of an inclusion answers, and what its answer says.
-use Rattle.std.proofs.Common.{◌≡◌, ℕ, zero, suc, ◌+◌, ◌<◌, ◌≤◌, get_or, sym, false, ◌⊎◌, List, [], ◌∷◌, length, take, Ok, Err, Result, refl, ap, ◌∙◌, subst, inl, inr, arith}
-use Rattle.std.proofs.lemmas.List.{take_all}
-use Rattle.std.proofs.lemmas.Option.{slice_get-get_or}
+use Rattle.std.proofs.Common.{◌≡◌, ℕ, zero, suc, ◌+◌, ◌≤◌, sym, true, false, ◌⊎◌, List, [], ◌∷◌, length, take, Some, Ok, Err, Result, refl, ap, ◌∙◌, subst, inl, inr, arith}
+use Rattle.std.specs.List.{slice_get}
+use Rattle.std.proofs.ByRecursion.{All-push}
+use Rattle.std.proofs.lemmas.List.{take_more, take_all}
+use Rattle.std.proofs.lemmas.Option.{slice_get_within, get_or_from_slice_get}
 use Rattle.std.proofs.lemmas.Bool.{cases_Bool, cond-true, cond-false}
 use Rattle.cell.specs.Kind.{Kind}
 use Rattle.index.specs.Closed.{held}
@@ -71,10 +73,18 @@ module _ {K : Type 0} (k : Kind K) (cs : List K) where
 
   -- the cells before the number n stand in the larger list
   module _ (bs : List K) (n : ℕ) (before : Included k (take n bs) cs) where
+    -- and so does the cell b with that number
+    pub included_more :
+        (b : K) → slice_get bs n ≡ Some b → held k (k.rank b) cs ≡ true → Included k (take (n + 1) bs) cs
+    included_more b at there =
+        let w = slice_get_within bs n b at in
+        rw (take_more bs n b w, get_or_from_slice_get bs n b b at)
+        (All-push (λ c. held k (k.rank c) cs ≡ true) (take n bs) b before there)
+
     -- and the cell b with that number does not
-    module _ (b : K) (w : n < length bs) (read : b ≡ get_or bs n b) (gone : held k (k.rank b) cs ≡ false) where
+    module _ (b : K) (at : slice_get bs n ≡ Some b) (gone : held k (k.rank b) cs ≡ false) where
       first_missing : FirstMissing k bs cs n
-      first_missing = (before, rw (slice_get-get_or bs n b w, ← read) gone)
+      first_missing = (before, rw at gone)
 
       pub answer_missing : Err (NotIncluded n) ≡ inclusion_test k bs cs
       answer_missing = sym (test_missing bs n first_missing)
@@ -90,4 +100,4 @@ module _ {K : Type 0} (k : Kind K) (cs : List K) where
       pub tells_included : TellsInclusion k bs cs (Ok tt)
       tells_included = tells_inclusion bs (Ok tt) answer_included
 
-pub ruleset answers = (answer_missing, tells_missing, answer_included, tells_included)
+pub ruleset answers = (included_more, answer_missing, tells_missing, answer_included, tells_included)
