@@ -8,7 +8,7 @@ use index::{FaceIndex, check_list};
 use std::process::Abort;
 
 // The ring with its triangle.
-static DISC: [Simplex; 7] = [
+pub(crate) static DISC: [Simplex; 7] = [
     Simplex::Vertex(0),
     Simplex::Vertex(1),
     Simplex::Vertex(2),

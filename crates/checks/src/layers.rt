@@ -51,7 +51,7 @@ static OF_SQUARE: [Entry; 12] = [
 ];
 
 // The cone of two vertices in the edge between them: two copies of vertices in degree 1, then the edge.
-static OF_CONE: [Entry; 4] = [(1, 0, 0, 2), (1, 0, 2, 2), (1, 1, 1, 2), (1, 1, 2, 1)];
+pub(crate) static OF_CONE: [Entry; 4] = [(1, 0, 0, 2), (1, 0, 2, 2), (1, 1, 1, 2), (1, 1, 2, 1)];
 
 // The dual of the cone of the scalar 2 on the edge.
 static OF_DUAL: [Entry; 7] = [
@@ -73,7 +73,13 @@ pub(crate) fn listed_entry(entries: &[Entry], at: (usize, usize, usize)) -> u8 {
 
 // The top, the dimensions up to degree 11, and all entries of the degrees up to 11 in rows and columns up to 7: those
 // that are not listed are 0.
-fn check_complex<C: Complex>(rt: &impl Abort, c: &C, top: usize, dims: &[usize], entries: &[Entry])
+pub(crate) fn check_complex<C: Complex>(
+    rt: &impl Abort,
+    c: &C,
+    top: usize,
+    dims: &[usize],
+    entries: &[Entry],
+)
     requires { C.Complex.sound c.now }
 {
     assert_eq!(rt; c.top(), top);

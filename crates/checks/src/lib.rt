@@ -10,6 +10,8 @@ mod entries;
 #[cfg(test)]
 mod fields;
 #[cfg(test)]
+mod indexes;
+#[cfg(test)]
 mod layers;
 #[cfg(test)]
 mod limits;

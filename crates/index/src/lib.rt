@@ -50,6 +50,13 @@ impl<'a, K: Cell> FaceIndex<'a, K> {
         FaceIndex { cells }
     }
 
+    // The cells of the list.
+    pub fn as_slice(&self) -> &[K]
+        ensures { result.now ≡ self.now.cells.now }
+    {
+        self.cells
+    }
+
     // The place of a cell of the rank of c, by halving.
     // The library's search has no early way out: it reads on once it has met the cell, which misses a bar of speed.
     pub fn find(&self, c: &K) -> Option<usize>
@@ -133,9 +140,6 @@ pub trait Index {
 
     ghost cells: { Self → List Self.K };
 
-    fn as_slice(&self) -> &[Self::K]
-        ensures { result.now ≡ cells self.now };
-
     fn len(&self) -> usize
         ensures { result ≡ length (cells self.now) };
 
@@ -150,10 +154,6 @@ impl<'a, K: Cell> Index for FaceIndex<'a, K> {
     type K = K;
 
     ghost cells = { λ s. s.cells.now };
-
-    fn as_slice(&self) -> &[K] {
-        self.cells
-    }
 
     fn len(&self) -> usize {
         self.cells.len()
