@@ -53,6 +53,7 @@ impl<K: Copy> WorkingList<K> {
     pub fn cells(&self) -> &[K]
         ensures kept { result.now ≡ kept self.now }
         ensures whole { (cs : List K) → Holds self.now cs → length cs ≤ 1024 → result.now ≡ cs }
+        ensures few { length result.now ≤ 1024 }
     {
         &self.items[..self.count]
     }
