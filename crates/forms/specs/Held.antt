@@ -1,7 +1,8 @@
 -- What the code holds of the lists of a job, and what it hands over of the counts.
 use Rattle.std.specs.Prelude.{ℕ, List, Ok, Err, Result}
-use Rattle.arrayvec.specs.ArrayVec.{ArrayVec}
 use Rattle.lists.specs.Working.{Holds}
+use Rattle.report.specs.declared.ByDegree.{ByDegree}
+use Rattle.report.specs.Degrees.{listed}
 use Rattle.forms.specs.declared.job_lists.JobLists.{JobLists}
 use Rattle.forms.specs.Forms.{Lists}
 
@@ -12,6 +13,6 @@ pub record HoldLists (w : JobLists) (l : Lists) : Type 0 where
   pub drawing : Holds w.drawing.now l.drawing
 
 -- the counts that are handed over, or the fault
-abbrev pub listing : {E : Type 0} → Result (ArrayVec ℕ) E → Result (List ℕ) E
-listing (Ok n) = Ok n.items
+abbrev pub listing : {E : Type 0} → Result ByDegree E → Result (List ℕ) E
+listing (Ok n) = Ok (listed n)
 listing (Err e) = Err e

@@ -2,6 +2,7 @@
 #![tactic(auto)]
 
 ghost use Rattle.std.specs.Prelude.{◌≡◌, IfOk};
+ghost use Rattle.report.specs.Degrees.{listed};
 ghost use Rattle.forms.specs.Counted.{counted, piled};
 ghost use Rattle.forms.specs.Fields.{codes_of};
 ghost use Rattle.forms.specs.FormLaw.{Accepted};
@@ -17,22 +18,23 @@ mod measure;
 pub mod numbers;
 mod pile;
 
-use arrayvec::ArrayVec;
 use complex::fault::PileFault;
 use fault::FormFault;
 use field::Prime;
 use field256::Field256;
 use job_lists::{ClosedLists, JobLists};
+use numbers::NamesField;
 use pile::measure_form;
 use reader::order::FieldOrder;
 use reader::question::Form;
+use report::ByDegree;
 
 // Over the field of an order.
 fn measure_over(
     order: FieldOrder,
     form: Form,
     lists: &ClosedLists<'_>,
-) -> Result<ArrayVec<usize, 9>, PileFault>
+) -> Result<ByDegree, PileFault>
     ensures { listing result ≡ piled (codes_of order) form (viewed lists.now) }
 {
     match order {
@@ -45,16 +47,19 @@ fn measure_over(
     }
 }
 
-// The cells of each degree of the complex that the form names, if the lists are closed.
-pub fn count_cells(
-    order: FieldOrder,
+// The cells of each degree of the complex that the form names, if the lists are closed. The order is a `FieldOrder`,
+// or the number of one.
+pub fn count_cells<O: NamesField>(
+    order: O,
     form: Form,
     lists: &JobLists<'_>,
-) -> Result<ArrayVec<usize, 9>, FormFault>
-    ensures is { (l : Lists) → HoldLists lists.now l → listing result ≡ counted order form l }
+) -> Result<ByDegree, FormFault>
+    ensures is { (l : Lists) → HoldLists lists.now l →
+        listing result ≡ counted (O.named order) form l }
     ensures law { (l : Lists) → HoldLists lists.now l →
-        IfOk result (λ n. Accepted form l n.items) }
+        IfOk result (λ n. Accepted form l (listed n)) }
 {
+    let order = order.field_order();
     let closed = lists.closed()?;
     Ok(measure_over(order, form, &closed)?)
 }

@@ -1,20 +1,22 @@
 // How many cells a complex has in each degree.
 ghost use Rattle.std.specs.Prelude.{◌≡◌, Ok};
+ghost use Rattle.report.specs.Degrees.{listed};
 ghost use Rattle.forms.specs.Counts.{dims, measured};
 
-use arrayvec::ArrayVec;
 use complex::Complex;
+use report::ByDegree;
 
 // Of a complex, which keeps the limits.
-pub(crate) fn dims_of<C: Complex>(c: &C) -> ArrayVec<usize, 9>
+pub(crate) fn dims_of<C: Complex>(c: &C) -> ByDegree
     requires { C.Complex.sound c.now }
-    ensures is { result.items ≡ dims (C.Complex.meaning c.now) }
-    ensures measured { Ok result.items ≡ measured (C.Complex.meaning c.now) }
+    ensures is { listed result ≡ dims (C.Complex.meaning c.now) }
+    ensures measured { Ok (listed result) ≡ measured (C.Complex.meaning c.now) }
 {
     c.law();
-    let mut dims = ArrayVec::new();
-    for k in 0..=c.top() {
-        dims.push(c.dim(k));
+    let top = c.top();
+    let mut numbers = [0; 9];
+    for k in 0..=top {
+        numbers[k] = c.dim(k);
     }
-    dims
+    ByDegree { numbers, top }
 }

@@ -7,19 +7,19 @@ ghost use Rattle.forms.specs.Steps.{viewed};
 use crate::job_lists::ClosedLists;
 use crate::layers::{cone_of, tensor_of};
 use crate::measure::dims_of;
-use arrayvec::ArrayVec;
 use complex::dual::Dual;
 use complex::fault::PileFault;
 use field::Field;
 use maps::scalar::Scalar;
 use reader::question::Form;
+use report::ByDegree;
 
 // The cells of each degree of the complex that the form names.
 pub(crate) fn measure_form<F: Field + Copy>(
     form: Form,
     lists: &ClosedLists<'_>,
     field: F,
-) -> Result<ArrayVec<usize, 9>, PileFault>
+) -> Result<ByDegree, PileFault>
     ensures { listing result ≡ piled F.Field.codes form (viewed lists.now) }
 {
     match form {

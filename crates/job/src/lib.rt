@@ -6,12 +6,12 @@ ghost use Rattle.forms.specs.FormLaw.{Accepted};
 ghost use Rattle.forms.specs.Held.{listing};
 ghost use Rattle.reader.specs.Sheets.{Contents, Shows};
 ghost use Rattle.report.specs.Buffers.{overlay};
+ghost use Rattle.report.specs.Degrees.{listed};
 ghost use Rattle.job.specs.JobLaw.{OnlyTooMany, Reported};
 ghost use Rattle.job.specs.Jobs.{answer, cells_of, fitting, lists_of, text_of, verdict, written};
 
 pub mod fault;
 
-use arrayvec::ArrayVec;
 use fault::JobFault;
 use forms::count_cells;
 use forms::fault::FormFault;
@@ -19,13 +19,13 @@ use forms::job_lists::JobLists;
 use lists::block::block_of;
 use reader::read::read;
 use reader::sheet::Sheet;
-use report::write_report;
+use report::{ByDegree, write_report};
 
 // The cells of each degree of the complex that the form names.
-fn counts_of(sheet: &Sheet) -> Result<ArrayVec<usize, 9>, FormFault>
+fn counts_of(sheet: &Sheet) -> Result<ByDegree, FormFault>
     ensures is { (k : Contents) → Shows sheet.now k → listing result ≡ cells_of k }
     ensures law { (k : Contents) → Shows sheet.now k →
-        IfOk result (λ n. Accepted k.question.form (lists_of k) n.items) }
+        IfOk result (λ n. Accepted k.question.form (lists_of k) (listed n)) }
 {
     let lists = JobLists {
         block: &block_of(&sheet.filled),
@@ -35,11 +35,11 @@ fn counts_of(sheet: &Sheet) -> Result<ArrayVec<usize, 9>, FormFault>
     count_cells(sheet.order, sheet.question.form, &lists)
 }
 
-fn write_lines(report: &mut [u8], sheet: &Sheet, counts: &ArrayVec<usize, 9>) -> usize
+fn write_lines(report: &mut [u8], sheet: &Sheet, counts: &ByDegree) -> usize
     ensures place { (k : Contents) → Shows sheet.now k →
-        result ≡ length (text_of k counts.now.items) }
+        result ≡ length (text_of k (listed counts.now)) }
     ensures bytes { (k : Contents) → Shows sheet.now k →
-        report.new ≡ overlay report.old (text_of k counts.now.items) }
+        report.new ≡ overlay report.old (text_of k (listed counts.now)) }
 {
     let order = u16::from(sheet.order);
     let form = u8::from(sheet.question.form);

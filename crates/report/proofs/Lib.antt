@@ -1,3 +1,4 @@
 pub mod Overlays
 pub mod Writing
 pub mod Pieces
+pub mod Degrees

@@ -1,3 +1,4 @@
 pub mod Buffers
 pub mod Lines
+pub mod Degrees
 pub mod Pens

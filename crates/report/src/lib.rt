@@ -3,12 +3,29 @@
 // Where the buffer ends, bytes are left out and places go on, so that the last place is the length of the whole text.
 #![tactic(auto)]
 
-ghost use Rattle.std.specs.Prelude.{◌≡◌, [], ◌∷◌, length, decimal};
+ghost use Rattle.std.specs.Prelude.{◌≡◌, ◌≤◌, [], ◌∷◌, length, decimal};
 ghost use Rattle.report.specs.Buffers.{overlay};
+ghost use Rattle.report.specs.Degrees.{listed};
 ghost use Rattle.report.specs.Lines.{line, numbers, report_text};
 ghost use Rattle.report.specs.Pens.{Fits, Writes};
 
-use arrayvec::ArrayVec;
+// A number for each degree from 0 to a top; past degree 8 there is none. Counts are copied, and the library's vector
+// cannot be.
+#[derive(Clone, Copy)]
+pub struct ByDegree {
+    pub numbers: [usize; 9],
+    pub top: usize,
+}
+
+impl ByDegree {
+    fn listed(&self) -> &[usize]
+        ensures is { result.now ≡ listed self.now }
+        ensures few { length result.now ≤ 9 }
+    {
+        let all = &self.numbers[..];
+        &all[0..self.top.min(8) + 1]
+    }
+}
 
 // A buffer, and the place in it where the next byte goes.
 #[derive(Drop)]
@@ -79,13 +96,13 @@ impl Pen<'_> {
 
 // Writes the report as far as the buffer goes; the answer is the length of the whole text. The order and the form are
 // numbers here: of a type, only its number would be printed.
-pub fn write_report(out: &mut [u8], order: usize, form: usize, cells: &ArrayVec<usize, 9>) -> usize
-    ensures place { result ≡ length (report_text order form cells.now.items) }
+pub fn write_report(out: &mut [u8], order: usize, form: usize, cells: &ByDegree) -> usize
+    ensures place { result ≡ length (report_text order form (listed cells.now)) }
     ensures bytes { out.new ≡ overlay out.old
-        (report_text order form cells.now.items) }
+        (report_text order form (listed cells.now)) }
 {
     let mut pen = Pen { out, at: 0 };
-    let counts = cells.as_slice();
+    let counts = cells.listed();
     pen.put_report(order, form, counts);
     pen.at
 }

@@ -1,5 +1,6 @@
 use Rattle.std.proofs.Common.{length, Err, rules, sym, ap, ◌∙◌}
 use Rattle.std.proofs.lemmas.Result.{err_from_is_err_and, IfOk-from_err}
+use Rattle.report.specs.Degrees.{listed}
 use Rattle.job.specs.Jobs.{answer, fitting, written}
 use Rattle.job.proofs.Answering.{fits_reported, verdict_counted, verdict_refused, verdict_unread}
 use Rattle.job.proofs.Refusing.{only_too_many}
@@ -25,7 +26,7 @@ returns-in_err-counts c =
 
 pub returns : goal.returns
 returns c =
-    let k = c.in_ok-sheet.ensures.is in let counts = c.in_ok-counts.counts.items in let old = c.args.report.now in
+    let k = c.in_ok-sheet.ensures.is in let counts = listed c.in_ok-counts.counts in let old = c.args.report.now in
     let v = verdict_counted c.args.input.now k.0 k.1 counts (sym (c.in_ok-counts.ensures.is k.0 k.2)) in
     let size = c.write_lines-length.ensures.place k.0 k.2 in
     let is = c.fit.ensures ∙ ap (fitting (length old)) size ∙ sym (ap (answer (length old)) v) in

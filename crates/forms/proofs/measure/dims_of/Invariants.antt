@@ -1,7 +1,7 @@
--- The dimensions of the degrees before k stand there.
-use Rattle.std.proofs.Common.{◌≡◌, map}
-use Rattle.std.specs.List.{range_with_len}
+-- The numbers of the degrees before k stand in their places.
+use Rattle.std.proofs.Common.{◌≡◌, ℕ, ◌<◌, length, get_or}
 use Rattle.forms.proofs.measure.dims_of.Given as goal
 
 abbrev pub invariant-loop-k : goal.invariant-loop-k
-invariant-loop-k g l = l.dims.items ≡ map (g.C.Complex.meaning l.c).dim (range_with_len 0 l.k)
+invariant-loop-k g l =
+    (length l.numbers ≡ 9) × ((d : ℕ) → d < l.k → get_or l.numbers d 0 ≡ (g.C.Complex.meaning l.c).dim d)
