@@ -1,9 +1,9 @@
-// An index of the tests' own, and what stands on it.
+// An index of the tests' own, and what stands on it; and an index that lends its cells.
 use crate::entries::DISC;
 use crate::layers::*;
-use cell::Cell;
+use cell::{Cell, Simplex};
 use complex::leaf::Leaf;
-use index::{FaceIndex, Index, check_list};
+use index::{FaceIndex, Index, LendsCells, check_list};
 use maps::cone::{Cone, check_cone};
 use maps::inclusion::{Inclusion, check_inclusion};
 use std::process::Abort;
@@ -90,4 +90,19 @@ fn check_cone_of<'a, K: Cell>(
 #[test]
 fn inclusion_stands_on_an_index_that_lends_nothing(rt: HostRuntime) -> Result<(), Fail> {
     check_cone_of(&rt, &EDGE[0..2], &EDGE, &[2, 3], &OF_CONE)
+}
+
+// What an index lends are these simplices, in their order.
+fn check_lent<L: LendsCells<K = Simplex>>(rt: &impl Abort, index: &L, simplices: &[Simplex]) {
+    let lent = index.as_slice();
+    assert_eq!(rt; lent.len(), simplices.len());
+    for (have, want) in lent.iter().zip(simplices) {
+        assert_eq!(rt; have.rank(), want.rank());
+    }
+}
+
+#[test]
+fn face_index_lends_its_cells(rt: HostRuntime) {
+    check_lent(&rt, &FaceIndex::over(&DISC), &DISC);
+    check_lent(&rt, &FaceIndex::over(&DISC[2..2]), &[]);
 }

@@ -167,3 +167,15 @@ impl<'a, K: Cell> Index for FaceIndex<'a, K> {
         FaceIndex::find(self, c)
     }
 }
+
+// An index that holds its cells as a slice, and lends it.
+pub trait LendsCells: Index {
+    fn as_slice(&self) -> &[Self::K]
+        ensures { result.now ≡ Self.Index.cells self.now };
+}
+
+impl<'a, K: Cell> LendsCells for FaceIndex<'a, K> {
+    fn as_slice(&self) -> &[K] {
+        FaceIndex::as_slice(self)
+    }
+}
